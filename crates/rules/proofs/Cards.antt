@@ -1,0 +1,13 @@
+-- The bench cards, by computation over a machine of full size.
+use mathlib.Core.Path.{_≡_, refl}
+use mathlib.Core.Bool.{true}
+use Rattle.rules.specs.Cards.{cards, facts, everyPasses}
+use Rattle.rules.proofs.Compute.{everyRule}
+
+pub cards-pass : everyPasses cards ≡ true
+unfolding everyRule
+cards-pass = refl
+
+pub facts-hold : everyPasses facts ≡ true
+unfolding everyRule
+facts-hold = refl

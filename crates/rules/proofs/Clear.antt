@@ -1,0 +1,150 @@
+-- The journal above the used words plays no part: to blank it commutes with all that the machine does.
+use mathlib.Core.Path.{_≡_, refl, _∙_, ap, sym}
+use mathlib.Core.Bool.{Bool, true, false}
+use mathlib.Core.List.{List, [], _∷_}
+use Prim.Native.Nat.{ℕ, zero, suc, _%_, _≤_, _<_}
+use native.Mathlib.Nat.{le-of-suc-le-suc, not-suc-le-zero, le-refl}
+use native.Mathlib.Omega.{arith}
+use lib.Dec.{ltb}
+use lib.ListN.{length, getD, set, take}
+use Rattle.rules.specs.Machine.{pick, Kind, reach, Mem, cells, put, beside, onward}
+use Rattle.rules.specs.Answers.{noRoom, offGrom, outside}
+use Rattle.rules.specs.Journal.{lay, Store, storeOf, wordOf, make, Note, note, restore, off, undoTop, undo, blank, blanked}
+use Rattle.rules.specs.Rules.{Act, next, grom, ask, jump, load, store, Rule, give, refuse, act, Out, got, stopped, then, room, perform, exec}
+use Rattle.rules.proofs.Undo.{restore-beside}
+
+-- the first u words, and 0 in place of each other
+abbrev pub keep : ℕ → List ℕ → List ℕ
+keep zero [] = []
+keep zero (x ∷ xs) = 0 ∷ keep zero xs
+keep (suc u) [] = []
+keep (suc u) (x ∷ xs) = x ∷ keep u xs
+
+abbrev pub clear : Mem → Mem
+clear m = beside (keep (m .used) (m .journal)) (m .used) m
+
+pub length-keep : (u : ℕ) (l : List ℕ) → length (keep u l) ≡ length l
+length-keep zero [] = refl
+length-keep zero (x ∷ xs) = ap suc (length-keep zero xs)
+length-keep (suc u) [] = refl
+length-keep (suc u) (x ∷ xs) = ap suc (length-keep u xs)
+
+pub take-keep : (u : ℕ) (l : List ℕ) → take u (keep u l) ≡ take u l
+take-keep zero l = refl
+take-keep (suc u) [] = refl
+take-keep (suc u) (x ∷ xs) = ap (λ (r : List ℕ). x ∷ r) (take-keep u xs)
+
+pub getD-keep : (u : ℕ) (l : List ℕ) (j : ℕ) → j < u → getD (keep u l) j 0 ≡ getD l j 0
+getD-keep zero l j h = absurd (not-suc-le-zero h)
+getD-keep (suc u) [] j h = refl
+getD-keep (suc u) (x ∷ xs) zero h = refl
+getD-keep (suc u) (x ∷ xs) (suc j) h = getD-keep u xs j (le-of-suc-le-suc h)
+
+-- a word above the used ones is not seen
+keep-set : (u : ℕ) (l : List ℕ) (j w : ℕ) → u ≤ j → keep u (set l j w) ≡ keep u l
+keep-set zero [] j w h = refl
+keep-set zero (x ∷ xs) zero w h = refl
+keep-set zero (x ∷ xs) (suc j) w h = ap (λ (r : List ℕ). 0 ∷ r) (keep-set zero xs j w (omega arith))
+keep-set (suc u) [] j w h = refl
+keep-set (suc u) (x ∷ xs) zero w h = absurd (not-suc-le-zero h)
+keep-set (suc u) (x ∷ xs) (suc j) w h = ap (λ (r : List ℕ). x ∷ r) (keep-set u xs j w (le-of-suc-le-suc h))
+
+keep-blank : (n u i : ℕ) (l : List ℕ) → u ≤ i → keep u (blank n i l) ≡ keep u l
+keep-blank zero u i l h = refl
+keep-blank (suc n) u i l h = keep-set u (blank n (suc i) l) i 0 h ∙ keep-blank n u (suc i) l (omega arith)
+
+-- a word laid, and a word taken off
+keep-lay : (u : ℕ) (l : List ℕ) (w : ℕ) → keep (suc u) (set l u w) ≡ set (keep u l) u w
+keep-lay zero [] w = refl
+keep-lay zero (x ∷ xs) w = refl
+keep-lay (suc u) [] w = refl
+keep-lay (suc u) (x ∷ xs) w = ap (λ (r : List ℕ). x ∷ r) (keep-lay u xs w)
+
+keep-off : (u : ℕ) (l : List ℕ) → set (keep (suc u) l) u 0 ≡ keep u l
+keep-off zero [] = refl
+keep-off zero (x ∷ xs) = refl
+keep-off (suc u) [] = refl
+keep-off (suc u) (x ∷ xs) = ap (λ (r : List ℕ). x ∷ r) (keep-off u xs)
+
+-- what is 0 already
+set-keep : (u : ℕ) (l : List ℕ) (j : ℕ) → u ≤ j → set (keep u l) j 0 ≡ keep u l
+set-keep zero [] j h = refl
+set-keep zero (x ∷ xs) zero h = refl
+set-keep zero (x ∷ xs) (suc j) h = ap (λ (r : List ℕ). 0 ∷ r) (set-keep zero xs j (omega arith))
+set-keep (suc u) [] j h = refl
+set-keep (suc u) (x ∷ xs) zero h = absurd (not-suc-le-zero h)
+set-keep (suc u) (x ∷ xs) (suc j) h = ap (λ (r : List ℕ). x ∷ r) (set-keep u xs j (le-of-suc-le-suc h))
+
+blank-keep : (n u i : ℕ) (l : List ℕ) → u ≤ i → blank n i (keep u l) ≡ keep u l
+blank-keep zero u i l h = refl
+blank-keep (suc n) u i l h = ap (λ (x : List ℕ). set x i 0) (blank-keep n u (suc i) l (omega arith)) ∙ set-keep u l i h
+
+pub clear-blanked : (n : ℕ) (m : Mem) → clear (blanked n m) ≡ clear m
+clear-blanked n m = ap (λ (l : List ℕ). beside l (m .used) m) (keep-blank n (m .used) (m .used) (m .journal) (le-refl (m .used)))
+
+pub blanked-clear : (n : ℕ) (m : Mem) → blanked n (clear m) ≡ clear m
+blanked-clear n m = ap (λ (l : List ℕ). beside l (m .used) m) (blank-keep n (m .used) (m .used) (m .journal) (le-refl (m .used)))
+
+pub clear-lay : (w : ℕ) (m : Mem) → clear (lay w m) ≡ lay w (clear m)
+clear-lay w m = ap (λ (l : List ℕ). beside l (suc (m .used)) m) (keep-lay (m .used) (m .journal) w)
+
+-- ---- of the rules: by induction on the rule
+
+abbrev pub cleared : {A : Type 0} → Out A → Out A
+cleared (got a pc m) = got a pc (clear m)
+cleared (stopped why m) = stopped why (clear m)
+
+pub cleared-pick : {A : Type 0} (c : Bool) (x y : Out A) → cleared (pick c x y) ≡ pick c (cleared x) (cleared y)
+cleared-pick true x y = refl
+cleared-pick false x y = refl
+
+pub cleared-then : {A B : Type 0} (o : Out A) (g h : A → ℕ → Mem → Out B)
+    → ((a : A) (pc : ℕ) (m : Mem) → cleared (g a pc m) ≡ h a pc (clear m)) → cleared (then o g) ≡ then (cleared o) h
+cleared-then (got a pc m) g h e = e a pc m
+cleared-then (stopped why m) g h e = refl
+
+clear-store : (k : Kind) (a b pc : ℕ) (m : Mem)
+    → cleared {A = ℕ} (pick (room m) (got 0 pc (make (storeOf k a b m) m)) (stopped noRoom m))
+    ≡ pick (room (clear m)) (got 0 pc (make (storeOf k a b m) (clear m))) (stopped noRoom (clear m))
+clear-store k a b pc m =
+    let s : Store = storeOf k a b m in
+    cleared-pick (room m) (got 0 pc (make s m)) (stopped noRoom m)
+    ∙ rw (length-keep (m .used) (m .journal), clear-lay (wordOf s) (put k a b m))
+
+pub perform-clear : (q : Act) (i : List ℕ) (pc : ℕ) (m : Mem) → cleared (perform q i pc m) ≡ perform q i pc (clear m)
+unfolding perform
+perform-clear next i pc m = cleared-pick (ltb pc (length i)) (got (getD i pc 0) (onward pc) m) (stopped offGrom m)
+perform-clear (grom a) i pc m = cleared-pick (ltb a (length i)) (got (getD i a 0) pc m) (stopped offGrom m)
+perform-clear ask i pc m = refl
+perform-clear (jump a) i pc m = refl
+perform-clear (load k a) i pc m = cleared-pick (ltb a (reach k)) (got (getD (cells k m) a 0) pc m) (stopped (outside k) m)
+perform-clear (store k a b) i pc m =
+    cleared-pick (ltb a (reach k)) (pick (room m) (got 0 pc (make (storeOf k a (b % 256) m) m)) (stopped noRoom m)) (stopped (outside k) m)
+    ∙ ap (λ (o : Out ℕ). pick (ltb a (reach k)) o (stopped (outside k) (clear m))) (clear-store k a (b % 256) pc m)
+
+pub exec-clear : {A : Type 0} (r : Rule A) (i : List ℕ) (pc : ℕ) (m : Mem) → cleared (exec r i pc m) ≡ exec r i pc (clear m)
+unfolding exec
+exec-clear (give a) i pc m = refl
+exec-clear (refuse why) i pc m = refl
+exec-clear (act q k) i pc m =
+    cleared-then (perform q i pc m) (λ v. exec (k v) i) (λ v. exec (k v) i) (λ v. exec-clear (k v) i)
+    ∙ ap (λ (o : Out ℕ). then o (λ v pc₁ m₁. exec (k v) i pc₁ m₁)) (perform-clear q i pc m)
+
+-- ---- of undoing
+
+undoTop-clear : (u : ℕ) (j : List ℕ) (m : Mem) → clear (undoTop u (beside j u m)) ≡ undoTop u (clear (beside j u m))
+unfolding undoTop
+undoTop-clear zero j m = refl
+undoTop-clear (suc u) j m =
+    let x : Note = note (getD j u 0) in
+    ap (λ (y : Mem). clear (off u y)) (restore-beside x j (suc u) m)
+    ∙ ap (λ (l : List ℕ). beside l u (restore x m)) (keep-set u j u 0 (le-refl u) ∙ sym (keep-off u j))
+    ∙ ap (off u) (sym (restore-beside x (keep (suc u) j) (suc u) m))
+    ∙ ap (λ (w : ℕ). off u (restore (note w) (clear (beside j (suc u) m)))) (sym (getD-keep (suc u) j u (le-refl (suc u))))
+
+pub undo-clear : (n : ℕ) (m : Mem) → clear (undo n m) ≡ undo n (clear m)
+unfolding undo
+undo-clear zero m = refl
+undo-clear (suc n) m =
+    let x : Mem = undo n m in
+    undoTop-clear (x .used) (x .journal) x ∙ ap (λ (y : Mem). undoTop (y .used) y) (undo-clear n m)

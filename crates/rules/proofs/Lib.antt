@@ -1,0 +1,11 @@
+pub mod Laws
+pub mod Stores
+pub mod Undo
+pub mod Clear
+pub mod Steps
+pub mod Fits
+pub mod History
+pub mod Run
+pub mod Opcodes
+pub mod Compute
+pub mod Cards

@@ -1,0 +1,93 @@
+-- The 256 opcodes by one computed test: those that 1, 2 and 3 stop are exactly 01's lists, and every other has a rule.
+use mathlib.Core.Path.{_≡_, refl, _∙_, ap, sym, subst}
+use mathlib.Core.Bool.{Bool, true, false}
+use mathlib.Core.List.{List, [], _∷_, _++_}
+use Prim.Native.Nat.{ℕ, zero, suc, _<_}
+use native.Mathlib.Omega.{arith}
+use native.Mathlib.Decide.{ℕ-discrete}
+use lib.Dec.{eqb, lit<}
+use borrow.Author.Tests.{eqb-true}
+use Rattle.rules.specs.Machine.{pick, _also_, bit}
+use Rattle.rules.specs.Answers.{Why, ended, noSuch, needsHost, offCpu, offVdp, offGrom, offStack, tooLong, offScreen, noRoom, wrongLength, noRecord, offRegister, number}
+use Rattle.rules.specs.Opcodes.{Class, stops, does, classOf, moveClass}
+use Rattle.rules.proofs.Fits.{both}
+
+-- ---- 01's lists
+
+-- "ended: opcode >0B (EXIT)"
+pub ending : List ℕ
+ending = 0x0B ∷ []
+
+-- "needs the host: >03, >0F, >F4 to >F7"
+pub hosts : List ℕ
+hosts = 0x03 ∷ 0x0F ∷ 0xF4 ∷ 0xF5 ∷ 0xF6 ∷ 0xF7 ∷ []
+
+-- n opcodes from one on
+pub from : ℕ → ℕ → List ℕ
+from a zero = []
+from a (suc n) = a ∷ from (suc a) n
+
+-- those that 01 names as instructions: >00 to >0D but those above, MOVE but >36, >37, >3E, >3F, BR and BS, those of one operand, those of two but immediate EX
+pub instructions : List ℕ
+instructions =
+    from 0x00 3 ++ from 0x04 7 ++ from 0x0C 2
+    ++ from 0x30 6 ++ from 0x38 6
+    ++ from 0x40 32 ++ from 0x60 32
+    ++ from 0x80 24
+    ++ from 0xA0 34 ++ from 0xC4 40
+
+pub among : ℕ → List ℕ → Bool
+among op [] = false
+among op (x ∷ xs) = pick (eqb op x) true (among op xs)
+
+-- the answer before the mark that 01's lists give an opcode, or 0 where it has a rule
+unfoldable pub listed : ℕ → ℕ
+listed op = pick (among op instructions) 0 (pick (among op ending) 1 (pick (among op hosts) 3 2))
+
+-- and that its class gives it
+unfoldable pub verdict : Class → ℕ
+verdict (stops why) = number why
+verdict (does t) = 0
+
+-- ---- the test, and what it says of each opcode
+
+-- a test holds of every number below n
+below : ℕ → (ℕ → Bool) → Bool
+below zero p = true
+below (suc n) p = p n also below n p
+
+below-at : (n : ℕ) (p : ℕ → Bool) → below n p ≡ true → (k : ℕ) → k < n → p k ≡ true
+unfolding below
+below-at zero p h k l = absurd (omega arith)
+below-at (suc n) p h k l = go (ℕ-discrete k n) (λ x. below-at n p (both h .1) k x)
+  where
+    go : Dec (k ≡ n) → (k < n → p k ≡ true) → p k ≡ true
+    go (yes e) f = ap p e ∙ both h .0
+    go (no ne) f = f (omega arith)
+
+right : ℕ → Bool
+right op = eqb (verdict (classOf op)) (listed op)
+
+all-right : below 256 right ≡ true
+unfolding below right verdict classOf moveClass listed among instructions ending hosts from _also_ bit
+all-right = refl
+
+pub opcodes-listed : (op : ℕ) → op < 256 → verdict (classOf op) ≡ listed op
+unfolding right
+opcodes-listed op h = eqb-true _ _ (below-at 256 right all-right op h)
+
+-- no rule refuses with 0
+pub never-done : (why : Why) → 0 < number why
+never-done ended = lit< tt
+never-done noSuch = lit< tt
+never-done needsHost = lit< tt
+never-done offCpu = lit< tt
+never-done offVdp = lit< tt
+never-done offGrom = lit< tt
+never-done offStack = lit< tt
+never-done tooLong = lit< tt
+never-done offScreen = lit< tt
+never-done noRoom = lit< tt
+never-done wrongLength = lit< tt
+never-done noRecord = lit< tt
+never-done offRegister = lit< tt

@@ -1,0 +1,211 @@
+-- A step and a step back, past test 11: how each ends, that the one undoes the other, and that the journal above the used words plays no part.
+use mathlib.Core.Path.{_≡_, refl, _∙_, ap, ap₂, sym, subst}
+use mathlib.Core.Bool.{Bool, true, false}
+use mathlib.Core.List.{List, []}
+use Prim.Native.Nat.{ℕ, zero, suc, _+_, _-_, _%_, _<_}
+use native.Mathlib.Nat.{mod-lt, le-refl, sub-self}
+use native.Mathlib.Omega.{arith}
+use lib.Dec.{ltb, lit<}
+use lib.ListN.{length, getD, set}
+use lib.Seq.{getD-set-same, getD-set-other}
+use borrow.Author.Tests.{ltb-true}
+use Rattle.rules.specs.Machine.{pick, Kind, reach, Mem, State, state, cells, onward}
+use Rattle.rules.specs.Answers.{Why, noRoom, offGrom, outside}
+use Rattle.rules.specs.Journal.{markWord, lay, Store, storeOf, wordOf, make, Note, mark, note, undoTop, undo, blanked}
+use Rattle.rules.specs.Rules.{Act, next, grom, ask, jump, load, store, Rule, give, refuse, act, Out, got, stopped, then, room, perform, exec, stores, storesThen}
+use Rattle.rules.specs.Opcodes.{Class, stops, does, classOf}
+use Rattle.rules.specs.Tasks.{ruleOf}
+use Rattle.rules.specs.Calls.{Reply, done, refused, begin, attempt, settle, fitStep, beginStores, stepStores, Find, found, lost, seen, scan, backTo, fitBack}
+use Rattle.rules.specs.Demands.{Bytes, Good}
+use Rattle.rules.proofs.Stores.{memOf, Made, none, one, makes, used-after}
+use Rattle.rules.proofs.Undo.{note-mark, note-store, bytes-after, undo-lay, rollback}
+use Rattle.rules.proofs.Clear.{keep, clear, length-keep, getD-keep, clear-lay, clear-blanked, blanked-clear, cleared, cleared-pick, cleared-then, perform-clear, exec-clear, undo-clear}
+
+-- ---- the address stays one of 16 bits: by induction on the rule
+
+abbrev In16 : {A : Type 0} → Out A → Type 0
+In16 (got a pc m) = pc < 65536
+In16 (stopped why m) = Unit {0}
+
+in16-pick : {A : Type 0} (c : Bool) (x y : Out A) → In16 x → In16 y → In16 (pick c x y)
+in16-pick true x y h k = h
+in16-pick false x y h k = k
+
+in16-then : {A B : Type 0} (o : Out A) (g : A → ℕ → Mem → Out B) → In16 o → ((a : A) (pc : ℕ) (m : Mem) → pc < 65536 → In16 (g a pc m)) → In16 (then o g)
+in16-then (got a pc m) g h k = k a pc m h
+in16-then (stopped why m) g h k = tt
+
+in16-perform : (q : Act) (i : List ℕ) (pc : ℕ) (m : Mem) → pc < 65536 → In16 (perform q i pc m)
+unfolding perform
+in16-perform next i pc m h = in16-pick (ltb pc (length i)) (got (getD i pc 0) (onward pc) m) (stopped offGrom m) (omega arith) tt
+in16-perform (grom a) i pc m h = in16-pick (ltb a (length i)) (got (getD i a 0) pc m) (stopped offGrom m) h tt
+in16-perform ask i pc m h = h
+in16-perform (jump a) i pc m h = mod-lt a (lit< tt)
+in16-perform (load k a) i pc m h = in16-pick (ltb a (reach k)) (got (getD (cells k m) a 0) pc m) (stopped (outside k) m) h tt
+in16-perform (store k a b) i pc m h =
+    let x : Out ℕ = got 0 pc (make (storeOf k a (b % 256) m) m) in
+    in16-pick (ltb a (reach k)) (pick (room m) x (stopped noRoom m)) (stopped (outside k) m) (in16-pick (room m) x (stopped noRoom m) h tt) tt
+
+in16-exec : {A : Type 0} (r : Rule A) (i : List ℕ) (pc : ℕ) (m : Mem) → pc < 65536 → In16 (exec r i pc m)
+unfolding exec
+in16-exec (give a) i pc m h = h
+in16-exec (refuse why) i pc m h = tt
+in16-exec (act q k) i pc m h = in16-then (perform q i pc m) (λ v. exec (k v) i) (in16-perform q i pc m h) (λ v. in16-exec (k v) i)
+
+in16-begin : (i : List ℕ) (pc : ℕ) (c : Class) (pc₁ : ℕ) (m : Mem) → pc₁ < 65536 → In16 (begin i pc c pc₁ m)
+unfolding begin
+in16-begin i pc (stops why) pc₁ m h = tt
+in16-begin i pc (does t) pc₁ m h = in16-pick (room m) _ (stopped noRoom m) (in16-exec (ruleOf t) i pc₁ _ h) tt
+
+in16-attempt : (i : List ℕ) (s : State) → s .pc < 65536 → In16 (attempt i s)
+unfolding attempt
+in16-attempt i s h =
+    in16-then (perform next i (s .pc) (s .mem)) (λ op. begin i (s .pc) (classOf op)) (in16-perform next i (s .pc) (s .mem) h)
+    (λ op. in16-begin i (s .pc) (classOf op))
+
+-- ---- how an attempt ends: nothing done, or a mark and then stores
+
+pub data Tried (pc : ℕ) (m : Mem) : List Store → Out (Unit {0}) → Type 0 where
+  early : {why : Why} → Tried pc m [] (stopped why m)
+  late : {ss : List Store} {o : Out (Unit {0})} → m .used < length (m .journal) → Made (lay (markWord pc) m) ss (memOf o) → Tried pc m ss o
+
+module _ (i : List ℕ) (pc : ℕ) (m : Mem) where
+  tried-does : (r : Rule (Unit {0})) (pc₁ : ℕ) (c : Bool) → room m ≡ c
+      → Tried pc m (pick c (stores r i pc₁ (lay (markWord pc) m)) []) (pick c (exec r i pc₁ (lay (markWord pc) m)) (stopped noRoom m))
+  tried-does r pc₁ true e = late (ltb-true _ _ e) (makes r i pc₁ (lay (markWord pc) m))
+  tried-does r pc₁ false e = early
+
+  tried-begin : (c : Class) (pc₁ : ℕ) → Tried pc m (beginStores i pc c pc₁ m) (begin i pc c pc₁ m)
+  unfolding begin beginStores
+  tried-begin (stops why) pc₁ = early
+  tried-begin (does t) pc₁ = tried-does (ruleOf t) pc₁ _ refl
+
+  tried-next : (c : Bool)
+      → Tried pc m (storesThen (pick c (got (getD i pc 0) (onward pc) m) (stopped offGrom m)) (λ op pc₁ m₁. beginStores i pc (classOf op) pc₁ m₁))
+      (then (pick c (got (getD i pc 0) (onward pc) m) (stopped offGrom m)) (λ op pc₁ m₁. begin i pc (classOf op) pc₁ m₁))
+  tried-next true = tried-begin (classOf (getD i pc 0)) (onward pc)
+  tried-next false = early
+
+  pub tried : Tried pc m (stepStores i (state pc m)) (attempt i (state pc m))
+  unfolding attempt stepStores perform
+  tried = tried-next (ltb pc (length i))
+
+-- ---- what a step leaves
+
+-- it was done: a mark, then its stores
+pub record Stepped (s : State) (ss : List Store) (t : State) : Type 0 where
+  pub word-left : s .mem .used < length (s .mem .journal)
+  pub makes : Made (lay (markWord (s .pc)) (s .mem)) ss (t .mem)
+  pub good : Good t
+
+-- it was refused: all as before, with 0 in the words that had been taken
+pub record Unchanged (s t : State) : Type 0 where
+  pub taken : ℕ
+  pub same : t ≡ state (s .pc) (blanked taken (s .mem))
+
+abbrev pub Settled : State → List Store → Reply → Type 0
+Settled s ss (done t) = Stepped s ss t
+Settled s ss (refused why t) = Unchanged s t
+
+settle-is : (s : State) (ss : List Store) (o : Out (Unit {0})) → Good s → Tried (s .pc) (s .mem) ss o → In16 o → Settled s ss (settle s o)
+settle-is s ss (got a pc₁ m₁) g (late h t) k = record { word-left = h; makes = t; good = record { address = k; bytes = bytes-after t (g .bytes) } }
+settle-is s ss (stopped why m₁) g t k = record { taken = m₁ .used - s .mem .used; same = refl }
+
+pub settled : (i : List ℕ) (s : State) → Good s → Settled s (stepStores i s) (fitStep i s)
+unfolding fitStep
+settled i s g = settle-is s (stepStores i s) (attempt i s) g (tried i (s .pc) (s .mem)) (in16-attempt i s (g .address))
+
+-- the mark and the stores, undone word by word
+pub undo-step : {pc : ℕ} (m : Mem) {m′ : Mem} {ss : List Store} → pc < 65536 → Bytes m → m .used < length (m .journal) → Made (lay (markWord pc) m) ss m′
+    → undo (suc (length ss)) m′ ≡ blanked (suc (length ss)) m
+unfolding undo
+undo-step {pc} m {ss = ss} a b h t =
+    ap (λ (x : Mem). undoTop (x .used) x) (rollback b t) ∙ undo-lay (length ss) (markWord pc) (mark pc) m (note-mark pc a) h
+
+-- so a refused step may be put back word by word: that gives what the rules say of it
+pub rollback-step : {pc : ℕ} {m m₁ : Mem} {ss : List Store} {why : Why} → pc < 65536 → Bytes m → Tried pc m ss (stopped why m₁)
+    → undo (m₁ .used - m .used) m₁ ≡ blanked (m₁ .used - m .used) m
+unfolding undo
+rollback-step {m = m} a b early = rw (sub-self (m .used))
+rollback-step {m = m} {m₁ = m₁} {ss = ss} a b (late h t) =
+    let e : m₁ .used - m .used ≡ suc (length ss) = omega (arith, used-after t) in
+    rw e (undo-step m a b h t)
+
+-- ---- a step back
+
+pub scan-same : (u : ℕ) (j l : List ℕ) → ((n : ℕ) → n < u → getD j n 0 ≡ getD l n 0) → scan u j ≡ scan u l
+unfolding scan
+scan-same zero j l h = refl
+scan-same (suc u) j l h = ap₂ (λ (w : ℕ) (f : Find). seen (note w) f) (h u (le-refl (suc u))) (scan-same u j l (λ n k. h n (omega arith)))
+
+scan-lay : (u w : ℕ) (j : List ℕ) → u < length j → scan (suc u) (set j u w) ≡ seen (note w) (scan u j)
+unfolding scan
+scan-lay u w j h =
+    ap₂ (λ (x : ℕ) (f : Find). seen (note x) f) (getD-set-same j u w 0 h)
+    (scan-same u (set j u w) j (λ n k. getD-set-other j u n w 0 (omega arith)))
+
+-- stores on top of a mark leave it the newest
+scan-made : {m m′ : Mem} {ss : List Store} (n pc : ℕ) → Bytes m → Made m ss m′ → scan (m .used) (m .journal) ≡ found n pc
+    → scan (m′ .used) (m′ .journal) ≡ found (n + length ss) pc
+scan-made n pc b none e =
+    let z : n ≡ n + 0 = omega arith in
+    e ∙ ap (λ (k : ℕ). found k pc) z
+scan-made {m} n pc b (one {s} {ss} h t) e =
+    let z : suc n + length ss ≡ n + suc (length ss) = omega arith in
+    scan-made (suc n) pc (bytes-after (one h none) b) t
+    (scan-lay (m .used) (wordOf s) (m .journal) (h .word-left) ∙ ap₂ seen (note-store s m h b) e)
+    ∙ ap (λ (k : ℕ). found k pc) z
+
+-- a step that was done is taken back
+pub back-step : {s t : State} {ss : List Store} → Good s → Stepped s ss t → fitBack t ≡ done (state (s .pc) (blanked (suc (length ss)) (s .mem)))
+unfolding fitBack
+back-step {s} {t} {ss} g h =
+    let z : 1 + length ss ≡ suc (length ss) = omega arith in
+    let u : ℕ = s .mem .used in
+    let w : ℕ = markWord (s .pc) in
+    let newest : scan (suc u) (set (s .mem .journal) u w) ≡ found 1 (s .pc) =
+    scan-lay u w (s .mem .journal) (h .word-left) ∙ ap (λ (x : Note). seen x (scan u (s .mem .journal))) (note-mark (s .pc) (g .address)) in
+    let e : scan (t .mem .used) (t .mem .journal) ≡ found (1 + length ss) (s .pc) = scan-made 1 (s .pc) (g .bytes) (h .makes) newest in
+    ap (λ (f : Find). backTo f t) (e ∙ ap (λ (k : ℕ). found k (s .pc)) z)
+    ∙ ap (λ (m : Mem). done (state (s .pc) m)) (undo-step (s .mem) (g .address) (g .bytes) (h .word-left) (h .makes))
+
+-- ---- the journal above the used words plays no part
+
+abbrev pub clearS : State → State
+clearS s = state (s .pc) (clear (s .mem))
+
+abbrev pub clearR : Reply → Reply
+clearR (done s) = done (clearS s)
+clearR (refused why s) = refused why (clearS s)
+
+settle-clear : (s : State) (o : Out (Unit {0})) → clearR (settle s o) ≡ settle (clearS s) (cleared o)
+settle-clear s (got a pc₁ m) = refl
+settle-clear s (stopped why m) =
+    let n : ℕ = m .used - s .mem .used in
+    ap (λ (x : Mem). refused why (state (s .pc) x)) (clear-blanked n (s .mem) ∙ sym (blanked-clear n (s .mem)))
+
+begin-clear : (i : List ℕ) (pc : ℕ) (c : Class) (pc₁ : ℕ) (m : Mem) → cleared (begin i pc c pc₁ m) ≡ begin i pc c pc₁ (clear m)
+unfolding begin
+begin-clear i pc (stops why) pc₁ m = refl
+begin-clear i pc (does t) pc₁ m =
+    cleared-pick (room m) (exec (ruleOf t) i pc₁ (lay (markWord pc) m)) (stopped noRoom m)
+    ∙ rw (exec-clear (ruleOf t) i pc₁ (lay (markWord pc) m), clear-lay (markWord pc) m, length-keep (m .used) (m .journal))
+
+pub step-clear : (i : List ℕ) (s : State) → clearR (fitStep i s) ≡ fitStep i (clearS s)
+unfolding fitStep attempt
+step-clear i s =
+    settle-clear s (attempt i s)
+    ∙ ap (settle (clearS s))
+    (cleared-then (perform next i (s .pc) (s .mem)) (λ op. begin i (s .pc) (classOf op)) (λ op. begin i (s .pc) (classOf op)) (λ op. begin-clear i (s .pc) (classOf op))
+    ∙ ap (λ (o : Out ℕ). then o (λ op pc₁ m₁. begin i (s .pc) (classOf op) pc₁ m₁)) (perform-clear next i (s .pc) (s .mem)))
+
+backTo-clear : (f : Find) (s : State) → clearR (backTo f s) ≡ backTo f (clearS s)
+backTo-clear (found n pc) s = ap (λ (x : Mem). done (state pc x)) (undo-clear n (s .mem))
+backTo-clear lost s = refl
+
+pub back-clear : (s : State) → clearR (fitBack s) ≡ fitBack (clearS s)
+unfolding fitBack
+back-clear s =
+    let u : ℕ = s .mem .used in
+    backTo-clear (scan u (s .mem .journal)) s
+    ∙ ap (λ (f : Find). backTo f (clearS s)) (scan-same u (s .mem .journal) (keep u (s .mem .journal)) (λ n h. sym (getD-keep u (s .mem .journal) n h)))

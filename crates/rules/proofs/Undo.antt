@@ -1,0 +1,170 @@
+-- Journal words read back, and stores undone: what a refused step has taken, put back word by word, is the state before it with 0 in those words.
+use mathlib.Core.Path.{_≡_, refl, _∙_, ap, ap₂, sym}
+use mathlib.Core.List.{List, [], _∷_}
+use mathlib.Core.Logic.{_≢_}
+use Prim.Native.Nat.{ℕ, zero, suc, _+_, _-_, _*_, _/_, _%_, _^_, _≤_, _<_}
+use native.Mathlib.Nat.{le-refl}
+use native.Mathlib.Omega.{arith}
+use native.Mathlib.Decide.{ℕ-discrete}
+use lib.Dec.{ltb, lit≤}
+use lib.ListN.{length, getD, set, length-set}
+use lib.Seq.{set-set, set-getD, set-comm, getD-set-same, getD-set-other}
+use borrow.Author.Tests.{lt-ltb}
+use Rattle.rules.specs.Machine.{pick, Kind, cpu, vdp, register, reach, Mem, mem, cells, put, beside}
+use Rattle.rules.specs.Journal.{kindNumber, word, markWord, lay, Store, wordOf, make, Note, stood, mark, unsound, stoodIn, noteOf, note, restore, off, undoTop, undo, blank, blanked}
+use Rattle.rules.specs.Rules.{Rule, exec, stores}
+use Rattle.rules.specs.Demands.{Bytes}
+use Rattle.rules.proofs.Stores.{memOf, Sound, Made, none, one, makes, used-after}
+
+-- ---- a word is read back as it was laid
+
+pub reach-small : (k : Kind) → reach k ≤ 16384
+reach-small cpu = lit≤ tt
+reach-small vdp = lit≤ tt
+reach-small register = lit≤ tt
+
+pub noteOf-kind : (k : Kind) (low : ℕ) → noteOf (kindNumber k) low ≡ stoodIn k low
+noteOf-kind cpu low = refl
+noteOf-kind vdp low = refl
+noteOf-kind register low = refl
+
+pub stoodIn-is : (k : Kind) (low a b : ℕ) → low / 256 ≡ a → low % 256 ≡ b → a < reach k → stoodIn k low ≡ stood k a b
+stoodIn-is k low a b e f h = rw (e, f, lt-ltb a (reach k) h)
+
+pub note-word : (k : Kind) (a b : ℕ) → a < reach k → b < 256 → note (word k a b) ≡ stood k a b
+unfolding note word
+note-word k a b h l =
+    let s : reach k ≤ 16384 = reach-small k in
+    let top : (kindNumber k * 2 ^ 30 + a * 256 + b) / 2 ^ 30 ≡ kindNumber k = omega arith in
+    let low : (kindNumber k * 2 ^ 30 + a * 256 + b) % 2 ^ 30 ≡ a * 256 + b = omega arith in
+    let x : (a * 256 + b) / 256 ≡ a = omega arith in
+    let y : (a * 256 + b) % 256 ≡ b = omega arith in
+    ap₂ noteOf top low ∙ noteOf-kind k (a * 256 + b) ∙ stoodIn-is k (a * 256 + b) a b x y h
+
+pub note-mark : (pc : ℕ) → pc < 65536 → note (markWord pc) ≡ mark pc
+unfolding note markWord
+note-mark pc h =
+    let top : (3 * 2 ^ 30 + pc) / 2 ^ 30 ≡ 3 = omega arith in
+    let low : (3 * 2 ^ 30 + pc) % 2 ^ 30 ≡ pc = omega arith in
+    rw (top, low, lt-ltb pc 65536 h)
+
+-- ---- bytes stay bytes
+
+bytes-set : (l : List ℕ) (j b : ℕ) → ((i : ℕ) → getD l i 0 < 256) → b < 256 → (i : ℕ) → getD (set l j b) i 0 < 256
+bytes-set [] j b h l i = h i
+bytes-set (x ∷ xs) zero b h l zero = l
+bytes-set (x ∷ xs) zero b h l (suc i) = h (suc i)
+bytes-set (x ∷ xs) (suc j) b h l zero = h zero
+bytes-set (x ∷ xs) (suc j) b h l (suc i) = bytes-set xs j b (λ n. h (suc n)) l i
+
+bytes-put : (l : Kind) (a b : ℕ) (m : Mem) → b < 256 → Bytes m → Bytes (put l a b m)
+bytes-put cpu a b m l h cpu = bytes-set (m .pad) a b (h cpu) l
+bytes-put cpu a b m l h vdp = h vdp
+bytes-put cpu a b m l h register = h register
+bytes-put vdp a b m l h cpu = h cpu
+bytes-put vdp a b m l h vdp = bytes-set (m .vram) a b (h vdp) l
+bytes-put vdp a b m l h register = h register
+bytes-put register a b m l h cpu = h cpu
+bytes-put register a b m l h vdp = h vdp
+bytes-put register a b m l h register = bytes-set (m .regs) a b (h register) l
+
+bytes-make : (s : Store) (m : Mem) → Sound s m → Bytes m → Bytes (make s m)
+bytes-make s m h b = bytes-put (s .kind) (s .at) (s .new) m (h .byte) b
+
+pub bytes-after : {m m′ : Mem} {ss : List Store} → Made m ss m′ → Bytes m → Bytes m′
+bytes-after none b = b
+bytes-after {m} (one {s} h t) b = bytes-after t (bytes-make s m h b)
+
+old-byte : (s : Store) (m : Mem) → Sound s m → Bytes m → s .old < 256
+old-byte s m h b = rw (h .was) (b (s .kind) (s .at))
+
+-- so the word of a store that was made is read back
+pub note-store : (s : Store) (m : Mem) → Sound s m → Bytes m → note (wordOf s) ≡ stood (s .kind) (s .at) (s .old)
+note-store s m h b = note-word (s .kind) (s .at) (s .old) (h .inside) (old-byte s m h b)
+
+-- ---- which words `blank` sets to 0
+
+-- those below it stay
+pub blank-below : (n i : ℕ) (l : List ℕ) (j : ℕ) → j < i → getD (blank n i l) j 0 ≡ getD l j 0
+blank-below zero i l j h = refl
+blank-below (suc n) i l j h =
+    let ne : j ≢ i = omega arith in
+    getD-set-other (blank n (suc i) l) i j 0 0 ne ∙ blank-below n (suc i) l j (omega arith)
+
+-- those above it stay
+pub blank-above : (n i : ℕ) (l : List ℕ) (j : ℕ) → i + n ≤ j → getD (blank n i l) j 0 ≡ getD l j 0
+blank-above zero i l j h = refl
+blank-above (suc n) i l j h =
+    let ne : j ≢ i = omega arith in
+    getD-set-other (blank n (suc i) l) i j 0 0 ne ∙ blank-above n (suc i) l j (omega arith)
+
+zeroed : (l : List ℕ) (i : ℕ) → getD (set l i 0) i 0 ≡ 0
+zeroed [] i = refl
+zeroed (x ∷ xs) zero = refl
+zeroed (x ∷ xs) (suc i) = zeroed xs i
+
+-- and each of them is 0
+pub blank-within : (n i : ℕ) (l : List ℕ) (j : ℕ) → i ≤ j → j < i + n → getD (blank n i l) j 0 ≡ 0
+blank-within zero i l j h k = absurd (omega arith)
+blank-within (suc n) i l j h k = go (ℕ-discrete j i) (λ x. blank-within n (suc i) l j x)
+  where
+    go : Dec (j ≡ i) → (suc i ≤ j → j < suc i + n → getD (blank n (suc i) l) j 0 ≡ 0) → getD (set (blank n (suc i) l) i 0) j 0 ≡ 0
+    go (yes e) f = rw e (zeroed (blank n (suc i) l) i)
+    go (no ne) f = getD-set-other (blank n (suc i) l) i j 0 0 ne ∙ f (omega arith) (omega arith)
+
+pub length-blank : (n i : ℕ) (l : List ℕ) → length (blank n i l) ≡ length l
+length-blank zero i l = refl
+length-blank (suc n) i l = length-set (blank n (suc i) l) i 0 ∙ length-blank n (suc i) l
+
+set-blank : (n i : ℕ) (l : List ℕ) (j w z : ℕ) → j < i → set (blank n i (set l j w)) j z ≡ set (blank n i l) j z
+set-blank zero i l j w z h = set-set l j w z
+set-blank (suc n) i l j w z h =
+    let ne : i ≢ j = omega arith in
+    set-comm (blank n (suc i) (set l j w)) i j 0 z ne
+    ∙ ap (λ (x : List ℕ). set x i 0) (set-blank n (suc i) l j w z (omega arith))
+    ∙ sym (set-comm (blank n (suc i) l) i j 0 z ne)
+
+-- ---- the rollback: from the top word down, each word's cell gets back what stood there
+
+put-back : (k : Kind) (a b : ℕ) (m : Mem) → put k a (getD (cells k m) a 0) (put k a b m) ≡ m
+put-back cpu a b m = ap (λ (l : List ℕ). mem l (m .vram) (m .regs) (m .journal) (m .used)) (set-set (m .pad) a b _ ∙ set-getD (m .pad) a 0)
+put-back vdp a b m = ap (λ (l : List ℕ). mem (m .pad) l (m .regs) (m .journal) (m .used)) (set-set (m .vram) a b _ ∙ set-getD (m .vram) a 0)
+put-back register a b m = ap (λ (l : List ℕ). mem (m .pad) (m .vram) l (m .journal) (m .used)) (set-set (m .regs) a b _ ∙ set-getD (m .regs) a 0)
+
+pub restore-beside : (x : Note) (j : List ℕ) (u : ℕ) (m : Mem) → restore x (beside j u m) ≡ beside j u (restore x m)
+restore-beside (stood k a b) j u m = refl
+restore-beside (mark pc) j u m = refl
+restore-beside unsound j u m = refl
+
+-- a word laid on top, with n blank words above it: it is read and taken off
+pub undo-lay : (n w : ℕ) (x : Note) (m : Mem) → note w ≡ x → m .used < length (m .journal)
+    → undoTop (suc (m .used)) (blanked n (lay w m)) ≡ beside (blank (suc n) (m .used) (m .journal)) (m .used) (restore x m)
+unfolding undoTop
+undo-lay n w x m e h =
+    let u : ℕ = m .used in
+    let j : List ℕ = blank n (suc u) (set (m .journal) u w) in
+    let top : getD j u 0 ≡ w = blank-below n (suc u) (set (m .journal) u w) u (le-refl (suc u)) ∙ getD-set-same (m .journal) u w 0 h in
+    ap (λ (y : Note). off u (restore y (beside j (suc u) m))) (ap note top ∙ e)
+    ∙ ap (off u) (restore-beside x j (suc u) m)
+    ∙ ap (λ (l : List ℕ). beside l u (restore x m)) (set-blank n (suc u) (m .journal) u w 0 (le-refl (suc u)))
+
+undo-make : (n : ℕ) (s : Store) (m : Mem) → Bytes m → Sound s m → undoTop (suc (m .used)) (blanked n (make s m)) ≡ blanked (suc n) m
+undo-make n s m b h =
+    let k : Kind = s .kind in
+    undo-lay n (wordOf s) (stood k (s .at) (s .old)) (put k (s .at) (s .new) m) (note-store s m h b) (h .word-left)
+    ∙ ap (λ (x : Mem). beside (blank (suc n) (m .used) (m .journal)) (m .used) x)
+    (ap (λ (y : ℕ). put k (s .at) y (put k (s .at) (s .new) m)) (h .was) ∙ put-back k (s .at) (s .new) m)
+
+pub rollback : {m m′ : Mem} {ss : List Store} → Bytes m → Made m ss m′ → undo (length ss) m′ ≡ blanked (length ss) m
+unfolding undo
+rollback b none = refl
+rollback {m} b (one {s} {ss} h t) =
+    ap (λ (x : Mem). undoTop (x .used) x) (rollback (bytes-make s m h b) t) ∙ undo-make (length ss) s m b h
+
+-- a rule taken back, whether it was done or refused: all as before, and the words that it took are 0
+pub rollback-rule : {A : Type 0} (r : Rule A) (i : List ℕ) (pc : ℕ) (m : Mem) → Bytes m
+    → undo (memOf (exec r i pc m) .used - m .used) (memOf (exec r i pc m)) ≡ blanked (memOf (exec r i pc m) .used - m .used) m
+rollback-rule r i pc m b =
+    let n : ℕ = length (stores r i pc m) in
+    let e : memOf (exec r i pc m) .used - m .used ≡ n = omega (arith, used-after (makes r i pc m)) in
+    rw e (rollback b (makes r i pc m))

@@ -1,0 +1,154 @@
+-- 01, "What a call says": step, run, step-back and viewer.
+use mathlib.Core.Bool.{Bool, true, false}
+use mathlib.Core.List.{List, []}
+use Prim.Native.Nat.{ℕ, zero, suc, _+_, _-_, _%_}
+use lib.Dec.{leb, eqb}
+use lib.ListN.{length, getD, take, drop}
+use Rattle.rules.specs.Machine.{pick, _also_, Kind, cpu, vdp, register, size, reach, group, Mem, State, state, cells}
+use Rattle.rules.specs.Answers.{Why, number, noRoom, wrongLength, noRecord}
+use Rattle.rules.specs.Journal.{markWord, lay, Store, Note, stood, mark, unsound, note, undo, blanked}
+use Rattle.rules.specs.Rules.{Out, got, stopped, then, room, next, perform, exec, stores, storesThen}
+use Rattle.rules.specs.Opcodes.{Class, stops, does, classOf}
+use Rattle.rules.specs.Tasks.{ruleOf}
+
+-- ---- 11, "a lent part has a wrong length, or used exceeds the journal"
+
+-- "1 to 8 groups of 8,192 bytes"
+unfoldable pub imageFits : ℕ → Bool
+imageFits n = eqb (n % group) 0 also leb group n also leb n 65536
+
+-- "256 bytes", "16,384 bytes", "8 bytes", "0 to 1,048,576 words"; by the lengths of pad, VDP RAM, registers and journal, and the used count
+unfoldable pub partsFit : ℕ → ℕ → ℕ → ℕ → ℕ → Bool
+partsFit p v r j u = eqb p (size cpu) also eqb v (size vdp) also eqb r (size register) also leb j 1048576 also leb u j
+
+abbrev pub memFits : Mem → Bool
+memFits m = partsFit (length (m .pad)) (length (m .vram)) (length (m .regs)) (length (m .journal)) (m .used)
+
+-- ---- a step
+
+-- what a call leaves: done, or refused; and the address and memories with which it comes back
+pub data Reply : Type 0 where
+  done : State → Reply
+  refused : Why → State → Reply
+
+abbrev pub answer : Reply → ℕ
+answer (done s) = 0
+answer (refused why s) = number why
+
+abbrev pub left : Reply → State
+left (done s) = s
+left (refused why s) = s
+
+-- "A step takes a mark word first, for every opcode that 2, 3 and 1 don't stop." pc is where the opcode stood.
+unfoldable pub begin : List ℕ → ℕ → Class → ℕ → Mem → Out (Unit {0})
+begin i pc (stops why) pc₁ m = stopped why m
+begin i pc (does t) pc₁ m = pick (room m) (exec (ruleOf t) i pc₁ (lay (markWord pc) m)) (stopped noRoom m)
+
+unfoldable pub attempt : List ℕ → State → Out (Unit {0})
+attempt i s = then (perform next i (s .pc) (s .mem)) (λ op pc₁ m. begin i (s .pc) (classOf op) pc₁ m)
+
+-- "A refused step puts all back; the journal words it had taken become 0."
+abbrev pub settle : State → Out (Unit {0}) → Reply
+settle s (got a pc₁ m) = done (state pc₁ m)
+settle s (stopped why m) = refused why (state (s .pc) (blanked (m .used - s .mem .used) (s .mem)))
+
+-- a step of a machine whose parts fit
+unfoldable pub fitStep : List ℕ → State → Reply
+fitStep i s = settle s (attempt i s)
+
+-- "Answer 11 is tested first and touches nothing."
+unfoldable pub step : List ℕ → State → Reply
+step i s = pick (imageFits (length i) also memFits (s .mem)) (fitStep i s) (refused wrongLength s)
+
+-- ---- its stores: "the number of byte stores those steps made"
+
+unfoldable pub beginStores : List ℕ → ℕ → Class → ℕ → Mem → List Store
+beginStores i pc (stops why) pc₁ m = []
+beginStores i pc (does t) pc₁ m = pick (room m) (stores (ruleOf t) i pc₁ (lay (markWord pc) m)) []
+
+unfoldable pub stepStores : List ℕ → State → List Store
+stepStores i s = storesThen (perform next i (s .pc) (s .mem)) (λ op pc₁ m. beginStores i (s .pc) (classOf op) pc₁ m)
+
+-- those of a step that was done; a refused one has made none
+abbrev pub made : List ℕ → State → Reply → ℕ
+made i s (done t) = length (stepStores i s)
+made i s (refused why t) = 0
+
+-- ---- a run
+
+-- "reports answer, steps done, and the number of byte stores those steps made"
+pub record Report : Type 0 where
+  pub answer : ℕ
+  pub steps : ℕ
+  pub stores : ℕ
+  pub end : State
+
+abbrev pub report : ℕ → ℕ → ℕ → State → Report
+report a k n s = record { answer = a; steps = k; stores = n; end = s }
+
+-- after a step that made n stores goes a run; after one that was refused, none: "stops at the first answer other than 0"
+abbrev pub onto : Reply → ℕ → Report → Report
+onto (done t) n r = report (r .answer) (suc (r .steps)) (n + r .stores) (r .end)
+onto (refused why t) n r = report (number why) 0 0 t
+
+-- "up to n .. steps"
+unfoldable pub steps : ℕ → List ℕ → State → Report
+steps zero i s = report 0 0 0 s
+steps (suc n) i s = onto (step i s) (length (stepStores i s)) (steps n i (left (step i s)))
+
+-- "n = 0 answers 0 after test 11."
+unfoldable pub run : ℕ → List ℕ → State → Report
+run n i s = pick (imageFits (length i) also memFits (s .mem)) (steps n i s) (report (number wrongLength) 0 0 s)
+
+-- ---- a step back
+
+-- from the used words down: how many there are to the newest mark, and its address; or no sound record
+pub data Find : Type 0 where
+  found : ℕ → ℕ → Find
+  lost : Find
+
+-- one word more
+abbrev pub further : Find → Find
+further (found n pc) = found (suc n) pc
+further lost = lost
+
+abbrev pub seen : Note → Find → Find
+seen (stood k a b) f = further f
+seen (mark pc) f = found 1 pc
+seen unsound f = lost
+
+unfoldable pub scan : ℕ → List ℕ → Find
+scan zero j = lost
+scan (suc u) j = seen (note (getD j u 0)) (scan u j)
+
+-- "Step-back takes words from the top down to the newest mark, restores each, sets pc, zeroes them. It answers 12, touching nothing, exactly if .."
+abbrev pub backTo : Find → State → Reply
+backTo (found n pc) s = done (state pc (undo n (s .mem)))
+backTo lost s = refused noRecord s
+
+unfoldable pub fitBack : State → Reply
+fitBack s = backTo (scan (s .mem .used) (s .mem .journal)) s
+
+-- 11 first
+unfoldable pub stepBack : State → Reply
+stepBack s = pick (memFits (s .mem)) (fitBack s) (refused wrongLength s)
+
+-- ---- the viewer
+
+-- "given CPU or VDP"
+pub data Memory : Type 0 where
+  cpuRam vdpRam : Memory
+
+abbrev pub kindOf : Memory → Kind
+kindOf cpuRam = cpu
+kindOf vdpRam = vdp
+
+abbrev pub viewed : Memory → List ℕ → List ℕ → List ℕ
+viewed cpuRam p v = p
+viewed vdpRam p v = v
+
+-- "address and length, shows the caller's own bytes there, as a part of the pad or of VDP RAM; it is empty unless all lie in the reachable range of memories of the right length"
+unfoldable pub view : Memory → List ℕ → List ℕ → ℕ → ℕ → List ℕ
+view which p v at len =
+    pick (eqb (length p) (size cpu) also eqb (length v) (size vdp) also leb (at + len) (reach (kindOf which)))
+    (take len (drop at (viewed which p v))) []

@@ -1,0 +1,100 @@
+-- 01, "What a call says": the journal's words, how a store lays one, and how they are read and taken off again.
+use mathlib.Core.Bool.{Bool}
+use mathlib.Core.List.{List}
+use Prim.Native.Nat.{ℕ, zero, suc, _+_, _*_, _/_, _%_, _^_}
+use lib.Dec.{ltb}
+use lib.ListN.{getD, set}
+use Rattle.rules.specs.Machine.{pick, Kind, cpu, vdp, register, upon, reach, Mem, cells, put, beside}
+
+-- ---- "Journal words: kind times 2^30, plus for kinds 0 (CPU), 1 (VDP), 2 (register) the address times 256 plus the byte that stood there"
+
+abbrev pub kindNumber : Kind → ℕ
+kindNumber k = upon k 0 1 2
+
+unfoldable pub word : Kind → ℕ → ℕ → ℕ
+word k a b = kindNumber k * 2 ^ 30 + a * 256 + b
+
+-- "kind 3 is a mark and carries the old pc in its low 16 bits"
+unfoldable pub markWord : ℕ → ℕ
+markWord pc = 3 * 2 ^ 30 + pc
+
+-- ---- a store
+
+-- a word onto the journal
+abbrev pub lay : ℕ → Mem → Mem
+lay w m = beside (set (m .journal) (m .used) w) (suc (m .used)) m
+
+-- one byte store: the cell, the byte that it puts there, and the byte that stood there
+pub record Store : Type 0 where
+  pub kind : Kind
+  pub at : ℕ
+  pub new : ℕ
+  pub old : ℕ
+
+abbrev pub storeOf : Kind → ℕ → ℕ → Mem → Store
+storeOf k a b m = record { kind = k; at = a; new = b; old = getD (cells k m) a 0 }
+
+abbrev pub wordOf : Store → ℕ
+wordOf s = word (s .kind) (s .at) (s .old)
+
+-- the byte into its cell, its word onto the journal
+abbrev pub make : Store → Mem → Mem
+make s m = lay (wordOf s) (put (s .kind) (s .at) (s .new) m)
+
+-- ---- what a word says
+
+pub data Note : Type 0 where
+  -- the byte b stood in a cell
+  stood : Kind → ℕ → ℕ → Note
+  -- a step began at this address
+  mark : ℕ → Note
+  -- "names no cell (pad above >DF, register above 7, VDP above >3FFF) or has a surplus bit"
+  unsound : Note
+
+-- of a word below kind 3, by the thirty bits under its kind: the address is all that stands above the byte, so a surplus bit is an address out of reach
+abbrev pub stoodIn : Kind → ℕ → Note
+stoodIn k low = pick (ltb (low / 256) (reach k)) (stood k (low / 256) (low % 256)) unsound
+
+-- by its kind and the thirty bits under it
+abbrev pub noteOf : ℕ → ℕ → Note
+noteOf zero low = stoodIn cpu low
+noteOf (suc zero) low = stoodIn vdp low
+noteOf (suc (suc zero)) low = stoodIn register low
+noteOf (suc (suc (suc zero))) low = pick (ltb low 65536) (mark low) unsound
+noteOf (suc (suc (suc (suc n)))) low = unsound
+
+unfoldable pub note : ℕ → Note
+note w = noteOf (w / 2 ^ 30) (w % 2 ^ 30)
+
+-- ---- words taken off: "takes words from the top down .., restores each, .. zeroes them"
+
+-- a cell gets back the byte that stood there
+abbrev pub restore : Note → Mem → Mem
+restore (stood k a b) m = put k a b m
+restore (mark pc) m = m
+restore unsound m = m
+
+-- the word at u is zeroed, and no longer used
+abbrev pub off : ℕ → Mem → Mem
+off u m = beside (set (m .journal) u 0) u m
+
+-- the top word, where u are used
+unfoldable pub undoTop : ℕ → Mem → Mem
+undoTop zero m = m
+undoTop (suc u) m = off u (restore (note (getD (m .journal) u 0)) m)
+
+-- the top n words
+unfoldable pub undo : ℕ → Mem → Mem
+undo zero m = m
+undo (suc n) m = undoTop (undo n m .used) (undo n m)
+
+-- ---- words set to 0
+
+-- n words from i on
+abbrev pub blank : ℕ → ℕ → List ℕ → List ℕ
+blank zero i l = l
+blank (suc n) i l = set (blank n (suc i) l) i 0
+
+-- the n words above the used ones: "the journal words it had taken become 0"
+abbrev pub blanked : ℕ → Mem → Mem
+blanked n m = beside (blank n (m .used) (m .journal)) (m .used) m

@@ -1,0 +1,14 @@
+-- In the order of document 01.
+pub mod Machine
+pub mod Answers
+pub mod Journal
+pub mod Rules
+pub mod Operands
+pub mod Opcodes
+pub mod Arithmetic
+pub mod Instructions
+pub mod Format
+pub mod Tasks
+pub mod Calls
+pub mod Demands
+pub mod Cards

@@ -1,0 +1,132 @@
+-- 01, "The machine on the bench": its parts, their sizes, and how the program address counts.
+use mathlib.Core.Bool.{Bool, true, false}
+use mathlib.Core.List.{List}
+use Prim.Native.Nat.{ℕ, _+_, _*_, _/_, _%_, _^_}
+use lib.Dec.{eqb}
+use lib.ListN.{set}
+
+-- one of two, by a test
+abbrev pub pick : {A : Type 0} → Bool → A → A → A
+pick true a b = a
+pick false a b = b
+
+-- both tests hold
+infixr 3 _also_
+unfoldable pub _also_ : Bool → Bool → Bool
+_also_ true b = b
+_also_ false b = false
+
+-- bit n of a number, counted from the right
+unfoldable pub bit : ℕ → ℕ → Bool
+bit n x = eqb (x / 2 ^ n % 2) 1
+
+-- ---- the parts
+
+-- "CPU RAM ("pad", >8300 up)", "VDP RAM", "VDP registers"
+pub data Kind : Type 0 where
+  cpu vdp register : Kind
+
+-- one of three, by the kind
+abbrev pub upon : {A : Type 0} → Kind → A → A → A → A
+upon cpu x y z = x
+upon vdp x y z = y
+upon register x y z = z
+
+-- "256 bytes", "16,384 bytes", "8 bytes"
+abbrev pub size : Kind → ℕ
+size k = upon k 256 16384 8
+
+-- "a program may reach offsets >00 to >DF": how many cells of each kind it may reach
+abbrev pub reach : Kind → ℕ
+reach k = upon k 0xE0 16384 8
+
+-- "GROM image, read only | 1 to 8 groups of 8,192 bytes, from address 0": the image stands beside the machine, as a list of bytes
+abbrev pub group : ℕ
+group = 8192
+
+-- what a step may change: the three memories, and "Journal | 0 to 1,048,576 words of 32 bits, and a used count"
+pub record Mem : Type 0 where
+  pub pad : List ℕ
+  pub vram : List ℕ
+  pub regs : List ℕ
+  pub journal : List ℕ
+  pub used : ℕ
+
+abbrev pub mem : List ℕ → List ℕ → List ℕ → List ℕ → ℕ → Mem
+mem p v r j u = record { pad = p; vram = v; regs = r; journal = j; used = u }
+
+-- "Program address (pc) | 16 bits"
+pub record State : Type 0 where
+  pub pc : ℕ
+  pub mem : Mem
+
+abbrev pub state : ℕ → Mem → State
+state pc m = record { pc = pc; mem = m }
+
+-- the cells of one kind
+abbrev pub cells : Kind → Mem → List ℕ
+cells k m = upon k (m .pad) (m .vram) (m .regs)
+
+-- the same machine with a byte in a cell
+abbrev pub put : Kind → ℕ → ℕ → Mem → Mem
+put k a b m =
+    mem (upon k (set (m .pad) a b) (m .pad) (m .pad)) (upon k (m .vram) (set (m .vram) a b) (m .vram))
+    (upon k (m .regs) (m .regs) (set (m .regs) a b)) (m .journal) (m .used)
+
+-- the same cells beside another journal
+abbrev pub beside : List ℕ → ℕ → Mem → Mem
+beside j u m = mem (m .pad) (m .vram) (m .regs) j u
+
+-- ---- how they count
+
+-- "Reading GROM at pc moves pc on: the low 13 bits count and wrap, the top 3 stay."
+abbrev pub onward : ℕ → ℕ
+onward pc = pc / group * group + (pc % group + 1) % group
+
+-- "Words are high byte first."
+abbrev pub joined : ℕ → ℕ → ℕ
+joined high low = high * 256 + low
+
+abbrev pub highByte : ℕ → ℕ
+highByte w = w / 256
+
+abbrev pub lowByte : ℕ → ℕ
+lowByte w = w % 256
+
+-- ---- "Pad cells"
+
+-- ">72 data stack pointer"
+abbrev pub dataPointer : ℕ
+dataPointer = 0x72
+
+-- ">73 subroutine stack pointer"
+abbrev pub subPointer : ℕ
+subPointer = 0x73
+
+-- ">78 random number"
+abbrev pub randomNumber : ℕ
+randomNumber = 0x78
+
+-- ">7C status"
+abbrev pub status : ℕ
+status = 0x7C
+
+-- ">7D character buffer"
+abbrev pub buffer : ℕ
+buffer = 0x7D
+
+-- ">7E row (YPT)"
+abbrev pub ypt : ℕ
+ypt = 0x7E
+
+-- ">7F column (XPT)"
+abbrev pub xpt : ℕ
+xpt = 0x7F
+
+-- ">C0 and >C1 random seed"
+abbrev pub seedCell : ℕ
+seedCell = 0xC0
+
+-- ">D4 copy of VDP register 1"
+abbrev pub registerCopy : ℕ
+registerCopy = 0xD4

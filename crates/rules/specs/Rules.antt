@@ -1,0 +1,142 @@
+-- How a rule is written: as a program over six actions, in `do` notation, so that an instruction can be read line by line beside its sentence.
+use mathlib.Core.Bool.{Bool, true, false}
+use mathlib.Core.List.{List, [], _∷_, _++_}
+use Prim.Native.Nat.{ℕ, _+_, _%_}
+use lib.Dec.{ltb}
+use lib.ListN.{length, getD}
+use Rattle.rules.specs.Machine.{pick, Kind, cpu, reach, Mem, cells, onward, joined}
+use Rattle.rules.specs.Answers.{Why, offGrom, noRoom, outside}
+use Rattle.rules.specs.Journal.{Store, storeOf, make}
+
+-- ---- the language
+
+-- all that a rule can do to the machine
+pub data Act : Type 0 where
+  -- the byte at pc, which moves on
+  next : Act
+  -- the GROM byte at an address
+  grom : ℕ → Act
+  -- where pc is
+  ask : Act
+  -- pc set
+  jump : ℕ → Act
+  -- the byte in a cell
+  load : Kind → ℕ → Act
+  -- a byte into a cell
+  store : Kind → ℕ → ℕ → Act
+
+-- a value, a refusal, or an action and how the rule goes on with what it gives
+pub data Rule (A : Type 0) : Type 0 where
+  give : A → Rule A
+  refuse : Why → Rule A
+  act : Act → (ℕ → Rule A) → Rule A
+
+-- one rule after the other
+infixl 1 _>>=_
+unfoldable pub _>>=_ : {A B : Type 0} → Rule A → (A → Rule B) → Rule B
+_>>=_ (give a) f = f a
+_>>=_ (refuse why) f = refuse why
+_>>=_ (act q k) f = act q (λ v. k v >>= f)
+
+infixl 1 _>>_
+abbrev pub _>>_ : {A B : Type 0} → Rule A → Rule B → Rule B
+_>>_ r s = r >>= (λ _. s)
+
+-- ---- what it does
+
+-- what a rule leaves: its value, pc and memories; or a refusal, and the memories as they then stood
+pub data Out (A : Type 0) : Type 0 where
+  got : A → ℕ → Mem → Out A
+  stopped : Why → Mem → Out A
+
+abbrev pub then : {A B : Type 0} → Out A → (A → ℕ → Mem → Out B) → Out B
+then (got a pc m) k = k a pc m
+then (stopped why m) k = stopped why m
+
+-- a journal word is left
+abbrev pub room : Mem → Bool
+room m = ltb (m .used) (length (m .journal))
+
+-- one action on an image, a program address and the memories. "For one store, 4, 5, 9 or 13 comes before 10."
+unfoldable pub perform : Act → List ℕ → ℕ → Mem → Out ℕ
+perform next i pc m = pick (ltb pc (length i)) (got (getD i pc 0) (onward pc) m) (stopped offGrom m)
+perform (grom a) i pc m = pick (ltb a (length i)) (got (getD i a 0) pc m) (stopped offGrom m)
+perform ask i pc m = got pc pc m
+perform (jump a) i pc m = got 0 (a % 65536) m
+perform (load k a) i pc m = pick (ltb a (reach k)) (got (getD (cells k m) a 0) pc m) (stopped (outside k) m)
+perform (store k a b) i pc m =
+    pick (ltb a (reach k))
+    (pick (room m) (got 0 pc (make (storeOf k a (b % 256) m) m)) (stopped noRoom m))
+    (stopped (outside k) m)
+
+unfoldable pub exec : {A : Type 0} → Rule A → List ℕ → ℕ → Mem → Out A
+exec (give a) i pc m = got a pc m
+exec (refuse why) i pc m = stopped why m
+exec (act q k) i pc m = then (perform q i pc m) (λ v pc₁ m₁. exec (k v) i pc₁ m₁)
+
+-- a rule after what went before it
+unfoldable pub after : {A B : Type 0} → List ℕ → Out A → Rule B → Out B
+after i o r = then o (λ _ pc m. exec r i pc m)
+
+-- a value beside what went before it
+unfoldable pub valued : {A : Type 0} → A → Out (Unit {0}) → Out A
+valued v (got a pc m) = got v pc m
+valued v (stopped why m) = stopped why m
+
+-- ---- the stores that it makes, in their order
+
+unfoldable pub actStores : Act → Mem → List Store
+actStores next m = []
+actStores (grom a) m = []
+actStores ask m = []
+actStores (jump a) m = []
+actStores (load k a) m = []
+actStores (store k a b) m = pick (ltb a (reach k)) (pick (room m) (storeOf k a (b % 256) m ∷ []) []) []
+
+abbrev pub storesThen : {A : Type 0} → Out A → (A → ℕ → Mem → List Store) → List Store
+storesThen (got a pc m) f = f a pc m
+storesThen (stopped why m) f = []
+
+unfoldable pub stores : {A : Type 0} → Rule A → List ℕ → ℕ → Mem → List Store
+stores (give a) i pc m = []
+stores (refuse why) i pc m = []
+stores (act q k) i pc m = actStores q m ++ storesThen (perform q i pc m) (λ v pc₁ m₁. stores (k v) i pc₁ m₁)
+
+-- ---- the words of which the instructions are made
+
+abbrev pub nextByte : Rule ℕ
+nextByte = act next give
+
+abbrev pub gromByte : ℕ → Rule ℕ
+gromByte a = act (grom a) give
+
+abbrev pub here : Rule ℕ
+here = act ask give
+
+abbrev pub goto : ℕ → Rule (Unit {0})
+goto a = act (jump a) (λ _. give tt)
+
+abbrev pub peek : Kind → ℕ → Rule ℕ
+peek k a = act (load k a) give
+
+abbrev pub poke : Kind → ℕ → ℕ → Rule (Unit {0})
+poke k a b = act (store k a b) (λ _. give tt)
+
+-- a refusal, unless a test holds
+unfoldable pub need : Bool → Why → Rule (Unit {0})
+need true why = give tt
+need false why = refuse why
+
+-- the two bytes at pc, as a word
+unfoldable pub nextWord : Rule ℕ
+nextWord = do
+  high ← nextByte
+  low ← nextByte
+  give (joined high low)
+
+-- a word in two cells
+unfoldable pub peekWord : Kind → ℕ → Rule ℕ
+peekWord k a = do
+  high ← peek k a
+  low ← peek k (a + 1)
+  give (joined high low)
