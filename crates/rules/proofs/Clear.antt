@@ -8,7 +8,7 @@ use native.Mathlib.Omega.{arith}
 use lib.Dec.{ltb}
 use lib.ListN.{length, getD, set, take}
 use Rattle.rules.specs.Machine.{pick, Kind, reach, Mem, cells, put, beside, onward}
-use Rattle.rules.specs.Answers.{noRoom, offGrom, outside}
+use Rattle.rules.specs.Answers.{number, noRoom, offGrom, outside}
 use Rattle.rules.specs.Journal.{lay, Store, storeOf, wordOf, make, Note, note, restore, off, undoTop, undo, blank, blanked}
 use Rattle.rules.specs.Rules.{Act, next, grom, ask, jump, load, store, Rule, give, refuse, act, Out, got, stopped, then, room, perform, exec}
 use Rattle.rules.proofs.Undo.{restore-beside}
@@ -92,7 +92,7 @@ clear-lay w m = ap (λ (l : List ℕ). beside l (suc (m .used)) m) (keep-lay (m 
 
 abbrev pub cleared : {A : Type 0} → Out A → Out A
 cleared (got a pc m) = got a pc (clear m)
-cleared (stopped why m) = stopped why (clear m)
+cleared (stopped n m) = stopped n (clear m)
 
 pub cleared-pick : {A : Type 0} (c : Bool) (x y : Out A) → cleared (pick c x y) ≡ pick c (cleared x) (cleared y)
 cleared-pick true x y = refl
@@ -101,26 +101,26 @@ cleared-pick false x y = refl
 pub cleared-then : {A B : Type 0} (o : Out A) (g h : A → ℕ → Mem → Out B)
     → ((a : A) (pc : ℕ) (m : Mem) → cleared (g a pc m) ≡ h a pc (clear m)) → cleared (then o g) ≡ then (cleared o) h
 cleared-then (got a pc m) g h e = e a pc m
-cleared-then (stopped why m) g h e = refl
+cleared-then (stopped n m) g h e = refl
 
 clear-store : (k : Kind) (a b pc : ℕ) (m : Mem)
-    → cleared {A = ℕ} (pick (room m) (got 0 pc (make (storeOf k a b m) m)) (stopped noRoom m))
-    ≡ pick (room (clear m)) (got 0 pc (make (storeOf k a b m) (clear m))) (stopped noRoom (clear m))
+    → cleared {A = ℕ} (pick (room m) (got 0 pc (make (storeOf k a b m) m)) (stopped (number noRoom) m))
+    ≡ pick (room (clear m)) (got 0 pc (make (storeOf k a b m) (clear m))) (stopped (number noRoom) (clear m))
 clear-store k a b pc m =
     let s : Store = storeOf k a b m in
-    cleared-pick (room m) (got 0 pc (make s m)) (stopped noRoom m)
+    cleared-pick (room m) (got 0 pc (make s m)) (stopped (number noRoom) m)
     ∙ rw (length-keep (m .used) (m .journal), clear-lay (wordOf s) (put k a b m))
 
 pub perform-clear : (q : Act) (i : List ℕ) (pc : ℕ) (m : Mem) → cleared (perform q i pc m) ≡ perform q i pc (clear m)
 unfolding perform
-perform-clear next i pc m = cleared-pick (ltb pc (length i)) (got (getD i pc 0) (onward pc) m) (stopped offGrom m)
-perform-clear (grom a) i pc m = cleared-pick (ltb a (length i)) (got (getD i a 0) pc m) (stopped offGrom m)
+perform-clear next i pc m = cleared-pick (ltb pc (length i)) (got (getD i pc 0) (onward pc) m) (stopped (number offGrom) m)
+perform-clear (grom a) i pc m = cleared-pick (ltb a (length i)) (got (getD i a 0) pc m) (stopped (number offGrom) m)
 perform-clear ask i pc m = refl
 perform-clear (jump a) i pc m = refl
-perform-clear (load k a) i pc m = cleared-pick (ltb a (reach k)) (got (getD (cells k m) a 0) pc m) (stopped (outside k) m)
+perform-clear (load k a) i pc m = cleared-pick (ltb a (reach k)) (got (getD (cells k m) a 0) pc m) (stopped (number (outside k)) m)
 perform-clear (store k a b) i pc m =
-    cleared-pick (ltb a (reach k)) (pick (room m) (got 0 pc (make (storeOf k a (b % 256) m) m)) (stopped noRoom m)) (stopped (outside k) m)
-    ∙ ap (λ (o : Out ℕ). pick (ltb a (reach k)) o (stopped (outside k) (clear m))) (clear-store k a (b % 256) pc m)
+    cleared-pick (ltb a (reach k)) (pick (room m) (got 0 pc (make (storeOf k a (b % 256) m) m)) (stopped (number noRoom) m)) (stopped (number (outside k)) m)
+    ∙ ap (λ (o : Out ℕ). pick (ltb a (reach k)) o (stopped (number (outside k)) (clear m))) (clear-store k a (b % 256) pc m)
 
 pub exec-clear : {A : Type 0} (r : Rule A) (i : List ℕ) (pc : ℕ) (m : Mem) → cleared (exec r i pc m) ≡ exec r i pc (clear m)
 unfolding exec

@@ -7,7 +7,8 @@ use Rattle.rules.specs.Operands.{anyCell, operandOf, position, draw, scr
 use Rattle.rules.specs.Operands.{storeValue, echo, result, operandValue, immediate, source}
 use Rattle.rules.specs.Opcodes.{moveClass, classOf}
 use Rattle.rules.specs.Arithmetic.{above, complement, extended, statusByte, compared, withCondition, tested, sum, carries, overflows, sumStatus}
-use Rattle.rules.specs.Arithmetic.{shiftCount, arithmetic, leftward, rightward, circular, repeated, oneEffect, twoEffect, nextSeed, randomOf}
+use Rattle.rules.specs.Arithmetic.{shiftCount, arithmetic, leftward, rightward, circular, repeated, absolute, inverse, oneEffect, twoEffect}
+use Rattle.rules.specs.Arithmetic.{nextSeed, randomOf}
 use Rattle.rules.specs.Instructions.{setCondition, storeEffect, oneRule, twoRule, testRule, mulRule, divOverflow, divResults, divided, divRule}
 use Rattle.rules.specs.Instructions.{exRule, raise, pushPc, popPc, pushRule, jumpInGroup, jumpIf, branchRule, longRule, callRule, rtnRule}
 use Rattle.rules.specs.Instructions.{rtncRule, caseRule, fetchRule, randRule, backRule, fill, allRule, moveLength, registerCell, moveTarget}
@@ -29,7 +30,7 @@ unfolding _also_ bit
     toScreen loadBuffer refresh standing value pokeWord storeValue echo result operandValue immediate source
     moveClass classOf
     above complement extended statusByte compared withCondition tested sum carries overflows sumStatus shiftCount arithmetic leftward rightward
-    circular repeated oneEffect twoEffect nextSeed randomOf
+    circular repeated absolute inverse oneEffect twoEffect nextSeed randomOf
     setCondition storeEffect oneRule twoRule testRule mulRule divOverflow divResults divided divRule exRule raise pushPc popPc pushRule jumpInGroup
     jumpIf branchRule longRule callRule rtnRule rtncRule caseRule fetchRule randRule backRule fill allRule moveLength registerCell moveTarget
     gromSource cellSource moveSource sourceByte registerOne deliver moveByte moveBytes moveCount moveRule

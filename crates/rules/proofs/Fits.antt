@@ -7,7 +7,7 @@ use lib.Dec.{leb, eqb}
 use lib.ListN.{length, length-set}
 use borrow.Author.Tests.{le-leb, leb-true}
 use Rattle.rules.specs.Machine.{pick, _also_, cpu, vdp, register, size, Mem, State, state}
-use Rattle.rules.specs.Answers.{wrongLength}
+use Rattle.rules.specs.Answers.{number, wrongLength}
 use Rattle.rules.specs.Journal.{markWord, lay, Store}
 use Rattle.rules.specs.Calls.{imageFits, partsFit, memFits, Reply, done, refused, left, fitStep, step, stepStores, fitBack, stepBack}
 use Rattle.rules.specs.Demands.{Good, Accepted}
@@ -67,16 +67,16 @@ module _ (i : List ℕ) (s : State) where
   unfolding step
   step-fit h = rw h
 
-  pub step-unfit : fits i s ≡ false → step i s ≡ refused wrongLength s
+  pub step-unfit : fits i s ≡ false → step i s ≡ refused (number wrongLength) s
   unfolding step
   step-unfit h = rw h
 
   -- what is known of every step, by what is known of one whose parts fit and of one whose parts don't
-  pub step-cases : (P : Reply → Type 0) → (fits i s ≡ true → P (fitStep i s)) → (fits i s ≡ false → P (refused wrongLength s)) → P (step i s)
+  pub step-cases : (P : Reply → Type 0) → (fits i s ≡ true → P (fitStep i s)) → (fits i s ≡ false → P (refused (number wrongLength) s)) → P (step i s)
   unfolding step
   step-cases P f g = go (fits i s) refl
     where
-      go : (c : Bool) → fits i s ≡ c → P (pick c (fitStep i s) (refused wrongLength s))
+      go : (c : Bool) → fits i s ≡ c → P (pick c (fitStep i s) (refused (number wrongLength) s))
       go true e = f e
       go false e = g e
 
@@ -99,9 +99,9 @@ clearR-pick false r q = refl
 pub call-clear : (i : List ℕ) (s : State) → clearR (step i s) ≡ step i (clearS s)
 unfolding step
 call-clear i s =
-    clearR-pick (fits i s) (fitStep i s) (refused wrongLength s) ∙ rw (step-clear i s, length-keep (s .mem .used) (s .mem .journal))
+    clearR-pick (fits i s) (fitStep i s) (refused (number wrongLength) s) ∙ rw (step-clear i s, length-keep (s .mem .used) (s .mem .journal))
 
 pub call-back-clear : (s : State) → clearR (stepBack s) ≡ stepBack (clearS s)
 unfolding stepBack
 call-back-clear s =
-    clearR-pick (memFits (s .mem)) (fitBack s) (refused wrongLength s) ∙ rw (back-clear s, length-keep (s .mem .used) (s .mem .journal))
+    clearR-pick (memFits (s .mem)) (fitBack s) (refused (number wrongLength) s) ∙ rw (back-clear s, length-keep (s .mem .used) (s .mem .journal))

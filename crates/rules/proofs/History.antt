@@ -8,7 +8,7 @@ use native.Mathlib.Omega.{arith}
 use lib.ListN.{length, take, length-append, length-map}
 use lib.Seq.{take-suc-set, append-snoc}
 use Rattle.rules.specs.Machine.{pick, Kind, Mem, State, state, cells}
-use Rattle.rules.specs.Answers.{Why, wrongLength, noRecord}
+use Rattle.rules.specs.Answers.{number, wrongLength, noRecord}
 use Rattle.rules.specs.Journal.{markWord, Store, wordOf, blanked}
 use Rattle.rules.specs.Calls.{memFits, Reply, done, refused, left, step, stepStores, scan, fitBack, stepBack}
 use Rattle.rules.specs.Demands.{Good, Accepted, Refused, Op, forth, aback, reply, play, tally, kept, forward, AllAccepted, records, Demand3}
@@ -21,7 +21,7 @@ use Rattle.rules.proofs.Fits.{both, fits-after, accepted-fits, step-set
 
 stepped-of : (s : State) (ss : List Store) (r : Reply) → Settled s ss r → Accepted r → Stepped s ss (left r)
 stepped-of s ss (done t) h a = h
-stepped-of s ss (refused why t) h a = absurd a
+stepped-of s ss (refused n t) h a = absurd a
 
 pub stepped : (i : List ℕ) (s : State) → Good s → Accepted (step i s) → Stepped s (stepStores i s) (left (step i s))
 stepped i s g a = stepped-of s (stepStores i s) (step i s) (step-settled i s g) a
@@ -35,16 +35,16 @@ back-undoes i s g a =
 
 -- with no word used there is no record
 pub record Nothing (s : State) : Type 0 where
-  pub why : Why
-  pub is : stepBack s ≡ refused why s
+  pub number : ℕ
+  pub is : stepBack s ≡ refused number s
 
 pub back-nothing : (s : State) → s .mem .used ≡ 0 → Nothing s
 unfolding stepBack fitBack scan
 back-nothing s z = go (memFits (s .mem)) refl
   where
     go : (c : Bool) → memFits (s .mem) ≡ c → Nothing s
-    go true e = record { why = noRecord; is = rw (e, z) }
-    go false e = record { why = wrongLength; is = rw e }
+    go true e = record { number = number noRecord; is = rw (e, z) }
+    go false e = record { number = number wrongLength; is = rw e }
 
 -- ---- states that agree but for the journal above the used words
 
@@ -55,11 +55,11 @@ good-clear s t e g =
 
 accepted-clear : (r : Reply) → Accepted (clearR r) → Accepted r
 accepted-clear (done s) a = a
-accepted-clear (refused why s) a = a
+accepted-clear (refused n s) a = a
 
 left-clear : (r : Reply) → left (clearR r) ≡ clearS (left r)
 left-clear (done s) = refl
-left-clear (refused why s) = refl
+left-clear (refused n s) = refl
 
 -- ---- only steps
 
@@ -107,13 +107,13 @@ module _ (s₀ : State) (g₀ : Good s₀) (z : s₀ .mem .used ≡ 0) where
   forth-is i is s ss (done t) h k e =
       let r : Reply = step i (forward is s₀) in
       record { accepted = (h .accepted, accepted-clear r (subst Accepted e tt)); same = ap left e ∙ left-clear r }
-  forth-is i is s ss (refused why t) h k e =
+  forth-is i is s ss (refused n t) h k e =
       record { accepted = h .accepted; same = ap clearS (k .same) ∙ ap (state (s .pc)) (clear-blanked (k .taken) (s .mem)) ∙ h .same }
 
   aback-is : (i : List ℕ) (is : List (List ℕ)) (r : Reply) → AllAccepted (i ∷ is) s₀ → clearR r ≡ done (clearS (forward is s₀))
       → Agrees s₀ (tally aback r (i ∷ is)) (left r)
   aback-is i is (done t) a e = record { accepted = a .0; same = ap left e }
-  aback-is i is (refused why t) a e = absurd (subst Accepted (sym e) tt)
+  aback-is i is (refused n t) a e = absurd (subst Accepted (sym e) tt)
 
   -- the newest of them is taken back
   back-forward : (i : List ℕ) (is : List (List ℕ)) (s : State) → Agrees s₀ (i ∷ is) s → clearR (stepBack s) ≡ done (clearS (forward is s₀))

@@ -10,7 +10,7 @@ use Rattle.rules.specs.Rules.{Rule, give, refuse, act, _>>=_, Out, got, 
 then-then : {A B C : Type 0} (o : Out A) (g : A → ℕ → Mem → Out B) (h : B → ℕ → Mem → Out C) (w : A → ℕ → Mem → Out C)
     → ((a : A) (pc : ℕ) (m : Mem) → w a pc m ≡ then (g a pc m) h) → then o w ≡ then (then o g) h
 then-then (got a pc m) g h w e = e a pc m
-then-then (stopped why m) g h w e = refl
+then-then (stopped n m) g h w e = refl
 
 -- a rule and then another, on the machine: by induction on the first
 pub exec-then : {A B : Type 0} (r : Rule A) (f : A → Rule B) (i : List ℕ) (pc : ℕ) (m : Mem)
@@ -26,7 +26,7 @@ exec-then (act q k) f i pc m =
 pub after-then : {A B C : Type 0} (i : List ℕ) (o : Out A) (r : Rule B) (s : Rule C) → after i o (r >>= (λ _. s)) ≡ after i (after i o r) s
 unfolding after
 after-then i (got a pc m) r s = exec-then r (λ _. s) i pc m
-after-then i (stopped why m) r s = refl
+after-then i (stopped n m) r s = refl
 
 pub seq : {A B C : Type 0} (i : List ℕ) (o : Out A) (o₁ : Out B) (o₂ : Out C) (r : Rule B) (s : Rule C)
     → o₁ ≡ after i o r → o₂ ≡ after i o₁ s → o₂ ≡ after i o (r >>= (λ _. s))
@@ -38,12 +38,12 @@ after-bind : {A B C : Type 0} (i : List ℕ) (o : Out A) (r : Rule B) (f : B →
     → after i o (r >>= f) ≡ then (after i o r) (λ a pc m. exec (f a) i pc m)
 unfolding after
 after-bind i (got a pc m) r f = exec-then r f i pc m
-after-bind i (stopped why m) r f = refl
+after-bind i (stopped n m) r f = refl
 
 then-valued : {A B : Type 0} (i : List ℕ) (v : A) (o : Out (Unit {0})) (f : A → Rule B) → then (valued v o) (λ a pc m. exec (f a) i pc m) ≡ after i o (f v)
 unfolding after valued
 then-valued i v (got a pc m) f = refl
-then-valued i v (stopped why m) f = refl
+then-valued i v (stopped n m) f = refl
 
 pub bind : {A B C : Type 0} (i : List ℕ) (o : Out A) (v : B) (o₁ : Out (Unit {0})) (o₂ : Out C) (r : Rule B) (f : B → Rule C)
     → valued v o₁ ≡ after i o r → o₂ ≡ after i o₁ (f v) → o₂ ≡ after i o (r >>= f)
@@ -55,12 +55,12 @@ bind {B = B} i o v o₁ o₂ r f e h =
 pub gives : {A : Type 0} (i : List ℕ) (o : Out (Unit {0})) (v w : A) → v ≡ w → valued v o ≡ after i o (give w)
 unfolding after exec valued
 gives i (got a pc m) v w e = rw e refl
-gives i (stopped why m) v w e = refl
+gives i (stopped n m) v w e = refl
 
 pub idle : (i : List ℕ) (o : Out (Unit {0})) → o ≡ after i o (give tt)
 unfolding after exec
 idle i (got a pc m) = refl
-idle i (stopped why m) = refl
+idle i (stopped n m) = refl
 
 -- ---- the same rule in other words
 

@@ -43,7 +43,7 @@ module _ (i : List ℕ) where
       → Ends (suc n) i s (onto p (length (stepStores i s)) r)
   ends-onto n s (done t) r e h =
       ends-before n s r (subst Accepted (sym e) tt) (subst (λ (x : Reply). Ends n i (left x) r) (sym e) h)
-  ends-onto n s (refused why t) r e h = cut (zero-lt-suc n) tt e
+  ends-onto n s (refused a t) r e h = cut (zero-lt-suc n) tt e
 
   steps-end : (n : ℕ) (s : State) → Ends n i s (steps n i s)
   unfolding steps

@@ -10,7 +10,7 @@ use lib.ListN.{length, getD, set}
 use lib.Seq.{getD-set-same, getD-set-other}
 use borrow.Author.Tests.{ltb-true}
 use Rattle.rules.specs.Machine.{pick, Kind, reach, Mem, State, state, cells, onward}
-use Rattle.rules.specs.Answers.{Why, noRoom, offGrom, outside}
+use Rattle.rules.specs.Answers.{number, noRoom, offGrom, outside}
 use Rattle.rules.specs.Journal.{markWord, lay, Store, storeOf, wordOf, make, Note, mark, note, undoTop, undo, blanked}
 use Rattle.rules.specs.Rules.{Act, next, grom, ask, jump, load, store, Rule, give, refuse, act, Out, got, stopped, then, room, perform, exec, stores, storesThen}
 use Rattle.rules.specs.Opcodes.{Class, stops, does, classOf}
@@ -25,7 +25,7 @@ use Rattle.rules.proofs.Clear.{keep, clear, length-keep, getD-keep, cle
 
 abbrev In16 : {A : Type 0} → Out A → Type 0
 In16 (got a pc m) = pc < 65536
-In16 (stopped why m) = Unit {0}
+In16 (stopped n m) = Unit {0}
 
 in16-pick : {A : Type 0} (c : Bool) (x y : Out A) → In16 x → In16 y → In16 (pick c x y)
 in16-pick true x y h k = h
@@ -33,18 +33,18 @@ in16-pick false x y h k = k
 
 in16-then : {A B : Type 0} (o : Out A) (g : A → ℕ → Mem → Out B) → In16 o → ((a : A) (pc : ℕ) (m : Mem) → pc < 65536 → In16 (g a pc m)) → In16 (then o g)
 in16-then (got a pc m) g h k = k a pc m h
-in16-then (stopped why m) g h k = tt
+in16-then (stopped n m) g h k = tt
 
 in16-perform : (q : Act) (i : List ℕ) (pc : ℕ) (m : Mem) → pc < 65536 → In16 (perform q i pc m)
 unfolding perform
-in16-perform next i pc m h = in16-pick (ltb pc (length i)) (got (getD i pc 0) (onward pc) m) (stopped offGrom m) (omega arith) tt
-in16-perform (grom a) i pc m h = in16-pick (ltb a (length i)) (got (getD i a 0) pc m) (stopped offGrom m) h tt
+in16-perform next i pc m h = in16-pick (ltb pc (length i)) (got (getD i pc 0) (onward pc) m) (stopped (number offGrom) m) (omega arith) tt
+in16-perform (grom a) i pc m h = in16-pick (ltb a (length i)) (got (getD i a 0) pc m) (stopped (number offGrom) m) h tt
 in16-perform ask i pc m h = h
 in16-perform (jump a) i pc m h = mod-lt a (lit< tt)
-in16-perform (load k a) i pc m h = in16-pick (ltb a (reach k)) (got (getD (cells k m) a 0) pc m) (stopped (outside k) m) h tt
+in16-perform (load k a) i pc m h = in16-pick (ltb a (reach k)) (got (getD (cells k m) a 0) pc m) (stopped (number (outside k)) m) h tt
 in16-perform (store k a b) i pc m h =
     let x : Out ℕ = got 0 pc (make (storeOf k a (b % 256) m) m) in
-    in16-pick (ltb a (reach k)) (pick (room m) x (stopped noRoom m)) (stopped (outside k) m) (in16-pick (room m) x (stopped noRoom m) h tt) tt
+    in16-pick (ltb a (reach k)) (pick (room m) x (stopped (number noRoom) m)) (stopped (number (outside k)) m) (in16-pick (room m) x (stopped (number noRoom) m) h tt) tt
 
 in16-exec : {A : Type 0} (r : Rule A) (i : List ℕ) (pc : ℕ) (m : Mem) → pc < 65536 → In16 (exec r i pc m)
 unfolding exec
@@ -55,7 +55,7 @@ in16-exec (act q k) i pc m h = in16-then (perform q i pc m) (λ v. exec (k v) i)
 in16-begin : (i : List ℕ) (pc : ℕ) (c : Class) (pc₁ : ℕ) (m : Mem) → pc₁ < 65536 → In16 (begin i pc c pc₁ m)
 unfolding begin
 in16-begin i pc (stops why) pc₁ m h = tt
-in16-begin i pc (does t) pc₁ m h = in16-pick (room m) _ (stopped noRoom m) (in16-exec (ruleOf t) i pc₁ _ h) tt
+in16-begin i pc (does t) pc₁ m h = in16-pick (room m) _ (stopped (number noRoom) m) (in16-exec (ruleOf t) i pc₁ _ h) tt
 
 in16-attempt : (i : List ℕ) (s : State) → s .pc < 65536 → In16 (attempt i s)
 unfolding attempt
@@ -66,12 +66,12 @@ in16-attempt i s h =
 -- ---- how an attempt ends: nothing done, or a mark and then stores
 
 pub data Tried (pc : ℕ) (m : Mem) : List Store → Out (Unit {0}) → Type 0 where
-  early : {why : Why} → Tried pc m [] (stopped why m)
+  early : {n : ℕ} → Tried pc m [] (stopped n m)
   late : {ss : List Store} {o : Out (Unit {0})} → m .used < length (m .journal) → Made (lay (markWord pc) m) ss (memOf o) → Tried pc m ss o
 
 module _ (i : List ℕ) (pc : ℕ) (m : Mem) where
   tried-does : (r : Rule (Unit {0})) (pc₁ : ℕ) (c : Bool) → room m ≡ c
-      → Tried pc m (pick c (stores r i pc₁ (lay (markWord pc) m)) []) (pick c (exec r i pc₁ (lay (markWord pc) m)) (stopped noRoom m))
+      → Tried pc m (pick c (stores r i pc₁ (lay (markWord pc) m)) []) (pick c (exec r i pc₁ (lay (markWord pc) m)) (stopped (number noRoom) m))
   tried-does r pc₁ true e = late (ltb-true _ _ e) (makes r i pc₁ (lay (markWord pc) m))
   tried-does r pc₁ false e = early
 
@@ -81,8 +81,8 @@ module _ (i : List ℕ) (pc : ℕ) (m : Mem) where
   tried-begin (does t) pc₁ = tried-does (ruleOf t) pc₁ _ refl
 
   tried-next : (c : Bool)
-      → Tried pc m (storesThen (pick c (got (getD i pc 0) (onward pc) m) (stopped offGrom m)) (λ op pc₁ m₁. beginStores i pc (classOf op) pc₁ m₁))
-      (then (pick c (got (getD i pc 0) (onward pc) m) (stopped offGrom m)) (λ op pc₁ m₁. begin i pc (classOf op) pc₁ m₁))
+      → Tried pc m (storesThen (pick c (got (getD i pc 0) (onward pc) m) (stopped (number offGrom) m)) (λ op pc₁ m₁. beginStores i pc (classOf op) pc₁ m₁))
+      (then (pick c (got (getD i pc 0) (onward pc) m) (stopped (number offGrom) m)) (λ op pc₁ m₁. begin i pc (classOf op) pc₁ m₁))
   tried-next true = tried-begin (classOf (getD i pc 0)) (onward pc)
   tried-next false = early
 
@@ -105,11 +105,11 @@ pub record Unchanged (s t : State) : Type 0 where
 
 abbrev pub Settled : State → List Store → Reply → Type 0
 Settled s ss (done t) = Stepped s ss t
-Settled s ss (refused why t) = Unchanged s t
+Settled s ss (refused n t) = Unchanged s t
 
 settle-is : (s : State) (ss : List Store) (o : Out (Unit {0})) → Good s → Tried (s .pc) (s .mem) ss o → In16 o → Settled s ss (settle s o)
 settle-is s ss (got a pc₁ m₁) g (late h t) k = record { word-left = h; makes = t; good = record { address = k; bytes = bytes-after t (g .bytes) } }
-settle-is s ss (stopped why m₁) g t k = record { taken = m₁ .used - s .mem .used; same = refl }
+settle-is s ss (stopped n m₁) g t k = record { taken = m₁ .used - s .mem .used; same = refl }
 
 pub settled : (i : List ℕ) (s : State) → Good s → Settled s (stepStores i s) (fitStep i s)
 unfolding fitStep
@@ -123,7 +123,7 @@ undo-step {pc} m {ss = ss} a b h t =
     ap (λ (x : Mem). undoTop (x .used) x) (rollback b t) ∙ undo-lay (length ss) (markWord pc) (mark pc) m (note-mark pc a) h
 
 -- so a refused step may be put back word by word: that gives what the rules say of it
-pub rollback-step : {pc : ℕ} {m m₁ : Mem} {ss : List Store} {why : Why} → pc < 65536 → Bytes m → Tried pc m ss (stopped why m₁)
+pub rollback-step : {pc : ℕ} {m m₁ : Mem} {ss : List Store} {n : ℕ} → pc < 65536 → Bytes m → Tried pc m ss (stopped n m₁)
     → undo (m₁ .used - m .used) m₁ ≡ blanked (m₁ .used - m .used) m
 unfolding undo
 rollback-step {m = m} a b early = rw (sub-self (m .used))
@@ -176,19 +176,19 @@ clearS s = state (s .pc) (clear (s .mem))
 
 abbrev pub clearR : Reply → Reply
 clearR (done s) = done (clearS s)
-clearR (refused why s) = refused why (clearS s)
+clearR (refused n s) = refused n (clearS s)
 
 settle-clear : (s : State) (o : Out (Unit {0})) → clearR (settle s o) ≡ settle (clearS s) (cleared o)
 settle-clear s (got a pc₁ m) = refl
-settle-clear s (stopped why m) =
-    let n : ℕ = m .used - s .mem .used in
-    ap (λ (x : Mem). refused why (state (s .pc) x)) (clear-blanked n (s .mem) ∙ sym (blanked-clear n (s .mem)))
+settle-clear s (stopped n m) =
+    let taken : ℕ = m .used - s .mem .used in
+    ap (λ (x : Mem). refused n (state (s .pc) x)) (clear-blanked taken (s .mem) ∙ sym (blanked-clear taken (s .mem)))
 
 begin-clear : (i : List ℕ) (pc : ℕ) (c : Class) (pc₁ : ℕ) (m : Mem) → cleared (begin i pc c pc₁ m) ≡ begin i pc c pc₁ (clear m)
 unfolding begin
 begin-clear i pc (stops why) pc₁ m = refl
 begin-clear i pc (does t) pc₁ m =
-    cleared-pick (room m) (exec (ruleOf t) i pc₁ (lay (markWord pc) m)) (stopped noRoom m)
+    cleared-pick (room m) (exec (ruleOf t) i pc₁ (lay (markWord pc) m)) (stopped (number noRoom) m)
     ∙ rw (exec-clear (ruleOf t) i pc₁ (lay (markWord pc) m), clear-lay (markWord pc) m, length-keep (m .used) (m .journal))
 
 pub step-clear : (i : List ℕ) (s : State) → clearR (fitStep i s) ≡ fitStep i (clearS s)

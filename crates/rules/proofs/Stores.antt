@@ -10,14 +10,14 @@ use lib.ListN.{length, getD, set, take, length-set}
 use lib.Seq.{sets, take-suc-set, append-snoc}
 use borrow.Author.Tests.{ltb-true}
 use Rattle.rules.specs.Machine.{pick, Kind, cpu, vdp, register, reach, Mem, cells, put}
-use Rattle.rules.specs.Answers.{Why, noRoom, outside}
+use Rattle.rules.specs.Answers.{number, noRoom, outside}
 use Rattle.rules.specs.Journal.{lay, Store, storeOf, wordOf, make}
 use Rattle.rules.specs.Rules.{Act, next, grom, ask, jump, load, store, Rule, give, refuse, act, Out, got, stopped, then, room, perform, exec, actStores, storesThen, stores}
 
 -- the memories that an execution leaves
 abbrev pub memOf : {A : Type 0} → Out A → Mem
 memOf (got a pc m) = m
-memOf (stopped why m) = m
+memOf (stopped n m) = m
 
 -- a store can be made
 pub record Sound (s : Store) (m : Mem) : Type 0 where
@@ -37,13 +37,13 @@ made-append (one h t) k = one h (made-append t k)
 
 -- ---- a rule makes its stores: by induction on the rule, an action at a time
 
-made-look : (c : Bool) (v pc : ℕ) (why : Why) (m : Mem) → Made m [] (memOf (pick c (got v pc m) (stopped why m)))
-made-look true v pc why m = none
-made-look false v pc why m = none
+made-look : (c : Bool) (v pc n : ℕ) (m : Mem) → Made m [] (memOf (pick c (got v pc m) (stopped n m)))
+made-look true v pc n m = none
+made-look false v pc n m = none
 
 made-store : (k : Kind) (a b pc : ℕ) (m : Mem) (c : Bool) → ltb a (reach k) ≡ c → (d : Bool) → room m ≡ d
     → Made m (pick c (pick d (storeOf k a (b % 256) m ∷ []) []) [])
-    (memOf (pick c (pick d (got zero pc (make (storeOf k a (b % 256) m) m)) (stopped noRoom m)) (stopped (outside k) m)))
+    (memOf (pick c (pick d (got zero pc (make (storeOf k a (b % 256) m) m)) (stopped (number noRoom) m)) (stopped (number (outside k)) m)))
 made-store k a b pc m true e true f =
     one (record { inside = ltb-true _ _ e; byte = mod-lt b (lit< tt); word-left = ltb-true _ _ f; was = refl }) none
 made-store k a b pc m true e false f = none
@@ -62,7 +62,7 @@ made-act (store k a b) i pc m = made-store k a b pc m _ refl _ refl
 made-then : {A B : Type 0} (o : Out A) (f : A → ℕ → Mem → List Store) (g : A → ℕ → Mem → Out B)
     → ((a : A) (pc : ℕ) (m : Mem) → Made m (f a pc m) (memOf (g a pc m))) → Made (memOf o) (storesThen o f) (memOf (then o g))
 made-then (got a pc m) f g h = h a pc m
-made-then (stopped why m) f g h = none
+made-then (stopped n m) f g h = none
 
 pub makes : {A : Type 0} (r : Rule A) (i : List ℕ) (pc : ℕ) (m : Mem) → Made m (stores r i pc m) (memOf (exec r i pc m))
 unfolding exec stores

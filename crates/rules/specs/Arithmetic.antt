@@ -107,6 +107,16 @@ circular x n = x / 2 ^ n + x % 2 ^ n * 2 ^ (16 - n)
 unfoldable pub repeated : Width → ℕ → ℕ
 repeated w x = pick w x (x * 256 + x)
 
+-- ---- those of one number
+
+-- ABS
+unfoldable pub absolute : ℕ → ℕ → ℕ
+absolute h x = pick (negative h x) (complement h x) x
+
+-- INV
+unfoldable pub inverse : ℕ → ℕ → ℕ
+inverse h x = all h - 1 - x
+
 -- ---- what an instruction stores, by its operands' values
 
 pub data Effect : Type 0 where
@@ -128,9 +138,9 @@ abbrev pub logical : ℕ → ℕ → Effect
 logical h r = both (compared h r 0 false false) r
 
 unfoldable pub oneEffect : One → ℕ → ℕ → Effect
-oneEffect abs h v = only (pick (negative h v) (complement h v) v)
+oneEffect abs h v = only (absolute h v)
 oneEffect neg h v = only (complement h v)
-oneEffect inv h v = only (all h - 1 - v)
+oneEffect inv h v = only (inverse h v)
 oneEffect clr h v = only 0
 -- "CZ (value against 0) .. high, greater, condition (equal), rest 0 (*own rule*)"
 oneEffect cz h v = flags (compared h v 0 false false)

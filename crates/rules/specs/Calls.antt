@@ -5,7 +5,7 @@ use Prim.Native.Nat.{ℕ, zero, suc, _+_, _-_, _%_}
 use lib.Dec.{leb, eqb}
 use lib.ListN.{length, getD, take, drop}
 use Rattle.rules.specs.Machine.{pick, _also_, Kind, cpu, vdp, register, size, reach, group, Mem, State, state, cells}
-use Rattle.rules.specs.Answers.{Why, number, noRoom, wrongLength, noRecord}
+use Rattle.rules.specs.Answers.{number, noRoom, wrongLength, noRecord}
 use Rattle.rules.specs.Journal.{markWord, lay, Store, Note, stood, mark, unsound, note, undo, blanked}
 use Rattle.rules.specs.Rules.{Out, got, stopped, then, room, next, perform, exec, stores, storesThen}
 use Rattle.rules.specs.Opcodes.{Class, stops, does, classOf}
@@ -26,23 +26,23 @@ memFits m = partsFit (length (m .pad)) (length (m .vram)) (length (m .regs)) (le
 
 -- ---- a step
 
--- what a call leaves: done, or refused; and the address and memories with which it comes back
+-- what a call leaves: done, or refused by a number; and the address and memories with which it comes back
 pub data Reply : Type 0 where
   done : State → Reply
-  refused : Why → State → Reply
+  refused : ℕ → State → Reply
 
 abbrev pub answer : Reply → ℕ
 answer (done s) = 0
-answer (refused why s) = number why
+answer (refused n s) = n
 
 abbrev pub left : Reply → State
 left (done s) = s
-left (refused why s) = s
+left (refused n s) = s
 
 -- "A step takes a mark word first, for every opcode that 2, 3 and 1 don't stop." pc is where the opcode stood.
 unfoldable pub begin : List ℕ → ℕ → Class → ℕ → Mem → Out (Unit {0})
-begin i pc (stops why) pc₁ m = stopped why m
-begin i pc (does t) pc₁ m = pick (room m) (exec (ruleOf t) i pc₁ (lay (markWord pc) m)) (stopped noRoom m)
+begin i pc (stops why) pc₁ m = stopped (number why) m
+begin i pc (does t) pc₁ m = pick (room m) (exec (ruleOf t) i pc₁ (lay (markWord pc) m)) (stopped (number noRoom) m)
 
 unfoldable pub attempt : List ℕ → State → Out (Unit {0})
 attempt i s = then (perform next i (s .pc) (s .mem)) (λ op pc₁ m. begin i (s .pc) (classOf op) pc₁ m)
@@ -50,7 +50,7 @@ attempt i s = then (perform next i (s .pc) (s .mem)) (λ op pc₁ m. begin i (s 
 -- "A refused step puts all back; the journal words it had taken become 0."
 abbrev pub settle : State → Out (Unit {0}) → Reply
 settle s (got a pc₁ m) = done (state pc₁ m)
-settle s (stopped why m) = refused why (state (s .pc) (blanked (m .used - s .mem .used) (s .mem)))
+settle s (stopped n m) = refused n (state (s .pc) (blanked (m .used - s .mem .used) (s .mem)))
 
 -- a step of a machine whose parts fit
 unfoldable pub fitStep : List ℕ → State → Reply
@@ -58,7 +58,7 @@ fitStep i s = settle s (attempt i s)
 
 -- "Answer 11 is tested first and touches nothing."
 unfoldable pub step : List ℕ → State → Reply
-step i s = pick (imageFits (length i) also memFits (s .mem)) (fitStep i s) (refused wrongLength s)
+step i s = pick (imageFits (length i) also memFits (s .mem)) (fitStep i s) (refused (number wrongLength) s)
 
 -- ---- its stores: "the number of byte stores those steps made"
 
@@ -72,7 +72,7 @@ stepStores i s = storesThen (perform next i (s .pc) (s .mem)) (λ op pc₁ m. be
 -- those of a step that was done; a refused one has made none
 abbrev pub made : List ℕ → State → Reply → ℕ
 made i s (done t) = length (stepStores i s)
-made i s (refused why t) = 0
+made i s (refused n t) = 0
 
 -- ---- a run
 
@@ -89,7 +89,7 @@ report a k n s = record { answer = a; steps = k; stores = n; end = s }
 -- after a step that made n stores goes a run; after one that was refused, none: "stops at the first answer other than 0"
 abbrev pub onto : Reply → ℕ → Report → Report
 onto (done t) n r = report (r .answer) (suc (r .steps)) (n + r .stores) (r .end)
-onto (refused why t) n r = report (number why) 0 0 t
+onto (refused a t) n r = report a 0 0 t
 
 -- "up to n .. steps"
 unfoldable pub steps : ℕ → List ℕ → State → Report
@@ -124,14 +124,14 @@ scan (suc u) j = seen (note (getD j u 0)) (scan u j)
 -- "Step-back takes words from the top down to the newest mark, restores each, sets pc, zeroes them. It answers 12, touching nothing, exactly if .."
 abbrev pub backTo : Find → State → Reply
 backTo (found n pc) s = done (state pc (undo n (s .mem)))
-backTo lost s = refused noRecord s
+backTo lost s = refused (number noRecord) s
 
 unfoldable pub fitBack : State → Reply
 fitBack s = backTo (scan (s .mem .used) (s .mem .journal)) s
 
 -- 11 first
 unfoldable pub stepBack : State → Reply
-stepBack s = pick (memFits (s .mem)) (fitBack s) (refused wrongLength s)
+stepBack s = pick (memFits (s .mem)) (fitBack s) (refused (number wrongLength) s)
 
 -- ---- the viewer
 

@@ -4,7 +4,6 @@ use mathlib.Core.List.{List, [], _∷_, _++_, map}
 use Prim.Native.Nat.{ℕ, _+_, _<_}
 use lib.ListN.{length, getD, take, replicate}
 use Rattle.rules.specs.Machine.{Kind, Mem, State, cells}
-use Rattle.rules.specs.Answers.{Why, number}
 use Rattle.rules.specs.Journal.{markWord, wordOf}
 use Rattle.rules.specs.Calls.{Reply, done, refused, left, step, stepStores, stepBack, Report, report}
 
@@ -21,11 +20,11 @@ pub record Good (s : State) : Type 0 where
 
 abbrev pub Accepted : Reply → Type 0
 Accepted (done s) = Unit {0}
-Accepted (refused why s) = ⊥
+Accepted (refused n s) = ⊥
 
 abbrev pub Refused : Reply → Type 0
 Refused (done s) = ⊥
-Refused (refused why s) = Unit {0}
+Refused (refused n s) = Unit {0}
 
 -- ---- a sequence of calls
 
@@ -50,9 +49,9 @@ rest (x ∷ xs) = xs
 -- the accepted steps not taken back, newest first, each by its image: one more after an accepted step, one less after an accepted step-back
 abbrev pub tally : Op → Reply → List (List ℕ) → List (List ℕ)
 tally (forth i) (done s) is = i ∷ is
-tally (forth i) (refused why s) is = is
+tally (forth i) (refused n s) is = is
 tally aback (done s) is = rest is
-tally aback (refused why s) is = is
+tally aback (refused n s) is = is
 
 abbrev pub kept : List Op → State → List (List ℕ) → List (List ℕ)
 kept [] s is = is
@@ -85,8 +84,8 @@ total (i ∷ is) s = total is s + length (stepStores i (forward is s))
 -- how a run of at most n steps over an image ends: all n are made, or k are and the next is refused
 pub data Ends (n : ℕ) (i : List ℕ) (s : State) : Report → Type 0 where
   full : AllAccepted (replicate n i) s → Ends n i s (report 0 n (total (replicate n i) s) (forward (replicate n i) s))
-  cut : {k : ℕ} {why : Why} {t : State} → k < n → AllAccepted (replicate k i) s → step i (forward (replicate k i) s) ≡ refused why t
-      → Ends n i s (report (number why) k (total (replicate k i) s) t)
+  cut : {k a : ℕ} {t : State} → k < n → AllAccepted (replicate k i) s → step i (forward (replicate k i) s) ≡ refused a t
+      → Ends n i s (report a k (total (replicate k i) s) t)
 
 -- ---- demand 3
 

@@ -5,7 +5,7 @@ use Prim.Native.Nat.{ℕ, _+_, _%_}
 use lib.Dec.{ltb}
 use lib.ListN.{length, getD}
 use Rattle.rules.specs.Machine.{pick, Kind, cpu, reach, Mem, cells, onward, joined}
-use Rattle.rules.specs.Answers.{Why, offGrom, noRoom, outside}
+use Rattle.rules.specs.Answers.{Why, number, offGrom, noRoom, outside}
 use Rattle.rules.specs.Journal.{Store, storeOf, make}
 
 -- ---- the language
@@ -44,14 +44,14 @@ _>>_ r s = r >>= (λ _. s)
 
 -- ---- what it does
 
--- what a rule leaves: its value, pc and memories; or a refusal, and the memories as they then stood
+-- what a rule leaves: its value, pc and memories; or a refusal's number, and the memories as they then stood
 pub data Out (A : Type 0) : Type 0 where
   got : A → ℕ → Mem → Out A
-  stopped : Why → Mem → Out A
+  stopped : ℕ → Mem → Out A
 
 abbrev pub then : {A B : Type 0} → Out A → (A → ℕ → Mem → Out B) → Out B
 then (got a pc m) k = k a pc m
-then (stopped why m) k = stopped why m
+then (stopped n m) k = stopped n m
 
 -- a journal word is left
 abbrev pub room : Mem → Bool
@@ -59,19 +59,19 @@ room m = ltb (m .used) (length (m .journal))
 
 -- one action on an image, a program address and the memories. "For one store, 4, 5, 9 or 13 comes before 10."
 unfoldable pub perform : Act → List ℕ → ℕ → Mem → Out ℕ
-perform next i pc m = pick (ltb pc (length i)) (got (getD i pc 0) (onward pc) m) (stopped offGrom m)
-perform (grom a) i pc m = pick (ltb a (length i)) (got (getD i a 0) pc m) (stopped offGrom m)
+perform next i pc m = pick (ltb pc (length i)) (got (getD i pc 0) (onward pc) m) (stopped (number offGrom) m)
+perform (grom a) i pc m = pick (ltb a (length i)) (got (getD i a 0) pc m) (stopped (number offGrom) m)
 perform ask i pc m = got pc pc m
 perform (jump a) i pc m = got 0 (a % 65536) m
-perform (load k a) i pc m = pick (ltb a (reach k)) (got (getD (cells k m) a 0) pc m) (stopped (outside k) m)
+perform (load k a) i pc m = pick (ltb a (reach k)) (got (getD (cells k m) a 0) pc m) (stopped (number (outside k)) m)
 perform (store k a b) i pc m =
     pick (ltb a (reach k))
-    (pick (room m) (got 0 pc (make (storeOf k a (b % 256) m) m)) (stopped noRoom m))
-    (stopped (outside k) m)
+    (pick (room m) (got 0 pc (make (storeOf k a (b % 256) m) m)) (stopped (number noRoom) m))
+    (stopped (number (outside k)) m)
 
 unfoldable pub exec : {A : Type 0} → Rule A → List ℕ → ℕ → Mem → Out A
 exec (give a) i pc m = got a pc m
-exec (refuse why) i pc m = stopped why m
+exec (refuse why) i pc m = stopped (number why) m
 exec (act q k) i pc m = then (perform q i pc m) (λ v pc₁ m₁. exec (k v) i pc₁ m₁)
 
 -- a rule after what went before it
@@ -81,7 +81,7 @@ after i o r = then o (λ _ pc m. exec r i pc m)
 -- a value beside what went before it
 unfoldable pub valued : {A : Type 0} → A → Out (Unit {0}) → Out A
 valued v (got a pc m) = got v pc m
-valued v (stopped why m) = stopped why m
+valued v (stopped n m) = stopped n m
 
 -- ---- the stores that it makes, in their order
 
@@ -95,7 +95,7 @@ actStores (store k a b) m = pick (ltb a (reach k)) (pick (room m) (storeOf k a (
 
 abbrev pub storesThen : {A : Type 0} → Out A → (A → ℕ → Mem → List Store) → List Store
 storesThen (got a pc m) f = f a pc m
-storesThen (stopped why m) f = []
+storesThen (stopped n m) f = []
 
 unfoldable pub stores : {A : Type 0} → Rule A → List ℕ → ℕ → Mem → List Store
 stores (give a) i pc m = []
