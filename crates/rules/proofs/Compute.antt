@@ -18,8 +18,8 @@ use Rattle.rules.specs.Format.{setCursor, wrapped, lowered, show, skip, 
 use Rattle.rules.specs.Format.{padText, operandText, goOn, openBlock, closeBlock, repeatBlock, blockTurn, endInside, settleCursor}
 use Rattle.rules.specs.Format.{endOutside, endCode, gromBias, operandBias, cursorCode, codeRule, code, codes, fmtRule}
 use Rattle.rules.specs.Tasks.{ruleOf}
-use Rattle.rules.specs.Calls.{imageFits, partsFit, begin, attempt, fitStep, step, beginStores, stepStores, steps, run, scan, fitBack}
-use Rattle.rules.specs.Calls.{stepBack, view}
+use Rattle.rules.specs.Calls.{imageFits, partsFit, takeMark, begin, attempt, fitStep, step, beginStores, stepStores, steps, run, scan}
+use Rattle.rules.specs.Calls.{fitBack, stepBack, view}
 use Rattle.rules.specs.Cards.{passes, everyPasses}
 
 unfoldable pub everyRule : Unit {0}
@@ -37,6 +37,6 @@ unfolding _also_ bit
     setCursor wrapped lowered show skip showNext text showTimes repeatText cpuOperand showCell padText operandText goOn openBlock closeBlock
     repeatBlock blockTurn endInside settleCursor endOutside endCode gromBias operandBias cursorCode codeRule code codes fmtRule
     ruleOf
-    imageFits partsFit begin attempt fitStep step beginStores stepStores steps run scan fitBack stepBack view
+    imageFits partsFit takeMark begin attempt fitStep step beginStores stepStores steps run scan fitBack stepBack view
     passes everyPasses
 everyRule = tt

@@ -12,10 +12,10 @@ use borrow.Author.Tests.{ltb-true}
 use Rattle.rules.specs.Machine.{pick, Kind, reach, Mem, State, state, cells, onward}
 use Rattle.rules.specs.Answers.{number, noRoom, offGrom, outside}
 use Rattle.rules.specs.Journal.{markWord, lay, Store, storeOf, wordOf, make, Note, mark, note, undoTop, undo, blanked}
-use Rattle.rules.specs.Rules.{Act, next, grom, ask, jump, load, store, Rule, give, refuse, act, Out, got, stopped, then, room, perform, exec, stores, storesThen}
+use Rattle.rules.specs.Rules.{Act, next, grom, ask, jump, load, store, Rule, give, refuse, act, Out, got, stopped, then, room, perform, exec, after, stores, storesThen}
 use Rattle.rules.specs.Opcodes.{Class, stops, does, classOf}
 use Rattle.rules.specs.Tasks.{ruleOf}
-use Rattle.rules.specs.Calls.{Reply, done, refused, begin, attempt, settle, fitStep, beginStores, stepStores, Find, found, lost, seen, scan, backTo, fitBack}
+use Rattle.rules.specs.Calls.{Reply, done, refused, takeMark, begin, attempt, settle, fitStep, beginStores, stepStores, Find, found, lost, seen, scan, backTo, fitBack}
 use Rattle.rules.specs.Demands.{Bytes, Good}
 use Rattle.rules.proofs.Stores.{memOf, Made, none, one, makes, used-after}
 use Rattle.rules.proofs.Undo.{note-mark, note-store, bytes-after, undo-lay, rollback}
@@ -53,9 +53,10 @@ in16-exec (refuse why) i pc m h = tt
 in16-exec (act q k) i pc m h = in16-then (perform q i pc m) (λ v. exec (k v) i) (in16-perform q i pc m h) (λ v. in16-exec (k v) i)
 
 in16-begin : (i : List ℕ) (pc : ℕ) (c : Class) (pc₁ : ℕ) (m : Mem) → pc₁ < 65536 → In16 (begin i pc c pc₁ m)
-unfolding begin
+unfolding begin takeMark after
 in16-begin i pc (stops why) pc₁ m h = tt
-in16-begin i pc (does t) pc₁ m h = in16-pick (room m) _ (stopped (number noRoom) m) (in16-exec (ruleOf t) i pc₁ _ h) tt
+in16-begin i pc (does t) pc₁ m h =
+    in16-then (takeMark pc pc₁ m) (λ _. exec (ruleOf t) i) (in16-pick (room m) _ (stopped (number noRoom) m) h tt) (λ _. in16-exec (ruleOf t) i)
 
 in16-attempt : (i : List ℕ) (s : State) → s .pc < 65536 → In16 (attempt i s)
 unfolding attempt
@@ -70,13 +71,18 @@ pub data Tried (pc : ℕ) (m : Mem) : List Store → Out (Unit {0}) → Type 0 w
   late : {ss : List Store} {o : Out (Unit {0})} → m .used < length (m .journal) → Made (lay (markWord pc) m) ss (memOf o) → Tried pc m ss o
 
 module _ (i : List ℕ) (pc : ℕ) (m : Mem) where
+  -- what is taken where a word is left, and where none is
+  took : ℕ → Bool → Out (Unit {0})
+  took pc₁ c = pick c (got tt pc₁ (lay (markWord pc) m)) (stopped (number noRoom) m)
+
   tried-does : (r : Rule (Unit {0})) (pc₁ : ℕ) (c : Bool) → room m ≡ c
-      → Tried pc m (pick c (stores r i pc₁ (lay (markWord pc) m)) []) (pick c (exec r i pc₁ (lay (markWord pc) m)) (stopped (number noRoom) m))
+      → Tried pc m (storesThen (took pc₁ c) (λ _ pc₂ m₂. stores r i pc₂ m₂)) (after i (took pc₁ c) r)
+  unfolding took after
   tried-does r pc₁ true e = late (ltb-true _ _ e) (makes r i pc₁ (lay (markWord pc) m))
   tried-does r pc₁ false e = early
 
   tried-begin : (c : Class) (pc₁ : ℕ) → Tried pc m (beginStores i pc c pc₁ m) (begin i pc c pc₁ m)
-  unfolding begin beginStores
+  unfolding begin beginStores takeMark took
   tried-begin (stops why) pc₁ = early
   tried-begin (does t) pc₁ = tried-does (ruleOf t) pc₁ _ refl
 
@@ -184,12 +190,18 @@ settle-clear s (stopped n m) =
     let taken : ℕ = m .used - s .mem .used in
     ap (λ (x : Mem). refused n (state (s .pc) x)) (clear-blanked taken (s .mem) ∙ sym (blanked-clear taken (s .mem)))
 
+takeMark-clear : (pc pc₁ : ℕ) (m : Mem) → cleared (takeMark pc pc₁ m) ≡ takeMark pc pc₁ (clear m)
+unfolding takeMark
+takeMark-clear pc pc₁ m =
+    cleared-pick (room m) (got tt pc₁ (lay (markWord pc) m)) (stopped (number noRoom) m)
+    ∙ rw (clear-lay (markWord pc) m, length-keep (m .used) (m .journal))
+
 begin-clear : (i : List ℕ) (pc : ℕ) (c : Class) (pc₁ : ℕ) (m : Mem) → cleared (begin i pc c pc₁ m) ≡ begin i pc c pc₁ (clear m)
-unfolding begin
+unfolding begin after
 begin-clear i pc (stops why) pc₁ m = refl
 begin-clear i pc (does t) pc₁ m =
-    cleared-pick (room m) (exec (ruleOf t) i pc₁ (lay (markWord pc) m)) (stopped (number noRoom) m)
-    ∙ rw (exec-clear (ruleOf t) i pc₁ (lay (markWord pc) m), clear-lay (markWord pc) m, length-keep (m .used) (m .journal))
+    cleared-then (takeMark pc pc₁ m) (λ _. exec (ruleOf t) i) (λ _. exec (ruleOf t) i) (λ _. exec-clear (ruleOf t) i)
+    ∙ ap (λ (o : Out (Unit {0})). then o (λ _ pc₂ m₂. exec (ruleOf t) i pc₂ m₂)) (takeMark-clear pc pc₁ m)
 
 pub step-clear : (i : List ℕ) (s : State) → clearR (fitStep i s) ≡ fitStep i (clearS s)
 unfolding fitStep attempt

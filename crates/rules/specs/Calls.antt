@@ -7,7 +7,7 @@ use lib.ListN.{length, getD, take, drop}
 use Rattle.rules.specs.Machine.{pick, _also_, Kind, cpu, vdp, register, size, reach, group, Mem, State, state, cells}
 use Rattle.rules.specs.Answers.{number, noRoom, wrongLength, noRecord}
 use Rattle.rules.specs.Journal.{markWord, lay, Store, Note, stood, mark, unsound, note, undo, blanked}
-use Rattle.rules.specs.Rules.{Out, got, stopped, then, room, next, perform, exec, stores, storesThen}
+use Rattle.rules.specs.Rules.{Out, got, stopped, then, after, room, next, perform, stores, storesThen}
 use Rattle.rules.specs.Opcodes.{Class, stops, does, classOf}
 use Rattle.rules.specs.Tasks.{ruleOf}
 
@@ -39,10 +39,14 @@ abbrev pub left : Reply → State
 left (done s) = s
 left (refused n s) = s
 
--- "A step takes a mark word first, for every opcode that 2, 3 and 1 don't stop." pc is where the opcode stood.
+-- "kind 3 is a mark and carries the old pc": pc is where the opcode stood, pc₁ is past it
+unfoldable pub takeMark : ℕ → ℕ → Mem → Out (Unit {0})
+takeMark pc pc₁ m = pick (room m) (got tt pc₁ (lay (markWord pc) m)) (stopped (number noRoom) m)
+
+-- "A step takes a mark word first, for every opcode that 2, 3 and 1 don't stop."
 unfoldable pub begin : List ℕ → ℕ → Class → ℕ → Mem → Out (Unit {0})
 begin i pc (stops why) pc₁ m = stopped (number why) m
-begin i pc (does t) pc₁ m = pick (room m) (exec (ruleOf t) i pc₁ (lay (markWord pc) m)) (stopped (number noRoom) m)
+begin i pc (does t) pc₁ m = after i (takeMark pc pc₁ m) (ruleOf t)
 
 unfoldable pub attempt : List ℕ → State → Out (Unit {0})
 attempt i s = then (perform next i (s .pc) (s .mem)) (λ op pc₁ m. begin i (s .pc) (classOf op) pc₁ m)
@@ -64,7 +68,7 @@ step i s = pick (imageFits (length i) also memFits (s .mem)) (fitStep i s) (refu
 
 unfoldable pub beginStores : List ℕ → ℕ → Class → ℕ → Mem → List Store
 beginStores i pc (stops why) pc₁ m = []
-beginStores i pc (does t) pc₁ m = pick (room m) (stores (ruleOf t) i pc₁ (lay (markWord pc) m)) []
+beginStores i pc (does t) pc₁ m = storesThen (takeMark pc pc₁ m) (λ _ pc₂ m₂. stores (ruleOf t) i pc₂ m₂)
 
 unfoldable pub stepStores : List ℕ → State → List Store
 stepStores i s = storesThen (perform next i (s .pc) (s .mem)) (λ op pc₁ m. beginStores i (s .pc) (classOf op) pc₁ m)

@@ -1,0 +1,13 @@
+-- Still after a refusal; else the address is set, which its type keeps below 65,536.
+use Rattle.machine.proofs.Acts.{still, jumped}
+use Rattle.machine.proofs.state.jump.Statement.{statement}
+use Rattle.machine.proofs.state.jump.Tie as tie
+
+returns : tie.Need-returns
+returns c = λ i p v g j. still i _ _ _ _ (c .if1 .taken)
+
+returns-2 : tie.Need-returns-2
+returns-2 c = λ i p v g j. jumped i _ _ _ (c .if1 .left) (c .before .before .fits .a .fits)
+
+pub jump-spec : {M : Type 1} → statement M
+jump-spec = tie.close (tie.spec returns returns-2)

@@ -1,0 +1,20 @@
+-- By the two tests.
+use borrow.Author.Tests.{lt-ltb, le-ltb}
+use Rattle.rules.specs.Format.{wrapped}
+use Rattle.number.proofs.cursor.wrapped.Statement.{statement}
+use Rattle.number.proofs.cursor.wrapped.Tie as tie
+
+returns : tie.Need-returns
+unfolding wrapped
+returns c = rw (lt-ltb _ _ (c .if1 .taken))
+
+returns-2 : tie.Need-returns-2
+unfolding wrapped
+returns-2 c = rw (le-ltb _ _ (c .before .if1 .left), lt-ltb _ _ (c .if2 .taken))
+
+returns-3 : tie.Need-returns-3
+unfolding wrapped
+returns-3 c = rw (le-ltb _ _ (c .before .if1 .left), le-ltb _ _ (c .if2 .left))
+
+pub wrapped-spec : {M : Type 1} → statement M
+wrapped-spec = tie.close (tie.spec returns returns-2 returns-3)
