@@ -10,7 +10,7 @@ use lib.Dec.{ltb}
 use lib.ListN.{length, getD, set}
 use borrow.Author.Tests.{ne-eqb, lt-ltb, le-ltb}
 use Rattle.rules.specs.Machine.{pick, Kind, cpu, vdp, register, reach, Mem, mem, put, beside}
-use Rattle.rules.specs.Journal.{kindNumber, markWord, Note, stood, mark, unsound, stoodIn, noteOf, note, restore, off, undoTop, undo}
+use Rattle.rules.specs.Journal.{kindNumber, markWord, Note, stood, mark, unsound, stoodIn, noteOf, note, restore, zeroTop, undoTop, undo}
 use Rattle.rules.specs.Rules.{then}
 use Rattle.rules.specs.Calls.{takeMark, Find, found, lost, further, seen, scan}
 use Rattle.rules.proofs.Undo.{noteOf-kind, restore-beside}
@@ -145,7 +145,7 @@ undone (suc u) t w m m′ h s e f =
     let q : t ≡ u = omega arith in
     f ∙ restore-beside (note w) (set (m .journal) t 0) t m
     ∙ ap₂ (λ (n x : ℕ). beside (set (m .journal) n 0) n (restore (note x) m)) q (e ∙ ap (λ (n : ℕ). getD (m .journal) n 0) q)
-    ∙ sym (ap (off u) (restore-beside (note (getD (m .journal) u 0)) (m .journal) (m .used) m))
+    ∙ sym (ap (zeroTop u) (restore-beside (note (getD (m .journal) u 0)) (m .journal) (m .used) m))
 
 pub undo-more : (n : ℕ) (m m₀ : Mem) → m ≡ undo n m₀ → undoTop (m .used) m ≡ undo (n + 1) m₀
 unfolding undo

@@ -41,8 +41,9 @@ pub fn give_byte(m: Now, b: u8) -> Now
     }
 }
 
+// Also of a machine that has refused the word is known: a caller may rely on its bound.
 pub fn give_word(m: Now, w: u16) -> Now
-    ensures { λ r. ⌜ ((i p v g j : List ℕ) → valued (r .word) (out p v g j r) ≡ after i (out p v g j m) (give w)) ⌝ }
+    ensures { λ r. ⌜ (r .word ≡ w) × ((i p v g j : List ℕ) → valued (r .word) (out p v g j r) ≡ after i (out p v g j m) (give w)) ⌝ }
 {
     Now {
         pc: m.pc,

@@ -6,7 +6,7 @@ use Prim.Native.Nat.{ℕ, _+_, _-_, _*_, _/_, _%_, _^_, _≤_, _<_}
 use native.Mathlib.Omega.{arith}
 use native.Mathlib.Nat.{le-of-lt, lt-of-lt-of-le, mod-lt, mul-le-mul, mul-le-mul-right, mul-lt-mul-of-pos-left, div-lt-iff-lt-mul, mul-mod-left}
 use lib.Pow.{pow-pos, pow-add, shr-lt, shl-shr, mod-pow-add, mod-mod-pow}
-use Rattle.rules.specs.Arithmetic.{half, all}
+use Rattle.rules.specs.Arithmetic.{half, span}
 use Rattle.rules.specs.Machine.{pick}
 
 -- ---- over the width
@@ -21,7 +21,7 @@ half-to true = omega arith
 half-to false = omega arith
 
 -- a number of the narrow width is a byte
-pub byte-of : {w : Bool} {x : ℕ} → w ≡ false → x < all (half w) → x < 256
+pub byte-of : {w : Bool} {x : ℕ} → w ≡ false → x < span (half w) → x < 256
 byte-of e h = rw e at h
 
 -- a test the other way

@@ -22,8 +22,8 @@ pub fn column_of(p: u16) -> u8
 }
 
 // Past the last line, back to the first.
-pub fn wrapped(p: u16) -> u16
-    ensures { λ r. ⌜ r ≡ Format.wrapped p ⌝ }
+pub fn wrap_show(p: u16) -> u16
+    ensures { λ r. ⌜ r ≡ Format.wrapShow p ⌝ }
 {
     if p < 0x300 {
         return p;
@@ -35,8 +35,8 @@ pub fn wrapped(p: u16) -> u16
 }
 
 // A skip past the last line.
-pub fn lowered(p: u16) -> u16
-    ensures { λ r. ⌜ r ≡ Format.lowered p ⌝ }
+pub fn wrap_skip(p: u16) -> u16
+    ensures { λ r. ⌜ r ≡ Format.wrapSkip p ⌝ }
 {
     if p < 0x300 {
         return p;

@@ -12,8 +12,8 @@ pub struct Halves {
 
 // The product, of two widths.
 pub fn times(wide: bool, a: u16, b: u16) -> Halves
-    requires { ⌜ (a < Arithmetic.all (Arithmetic.half wide)) × (b < Arithmetic.all (Arithmetic.half wide)) ⌝ }
-    ensures { λ r. ⌜ (r .high ≡ a * b / Arithmetic.all (Arithmetic.half wide)) × (r .low ≡ a * b % Arithmetic.all (Arithmetic.half wide)) ⌝ }
+    requires { ⌜ (a < Arithmetic.span (Arithmetic.half wide)) × (b < Arithmetic.span (Arithmetic.half wide)) ⌝ }
+    ensures { λ r. ⌜ (r .high ≡ a * b / Arithmetic.span (Arithmetic.half wide)) × (r .low ≡ a * b % Arithmetic.span (Arithmetic.half wide)) ⌝ }
 {
     let all = half(wide) * 2;
     let p = a as u32 * b as u32;
@@ -24,8 +24,8 @@ pub fn times(wide: bool, a: u16, b: u16) -> Halves
 
 // A number of two widths by another of one: the quotient, and the rest.
 pub fn divide(wide: bool, upper: u16, lower: u16, b: u16) -> Halves
-    requires { ⌜ (upper < b) × (b < Arithmetic.all (Arithmetic.half wide)) × (lower < Arithmetic.all (Arithmetic.half wide)) ⌝ }
-    ensures { λ r. ⌜ (r .high ≡ (upper * Arithmetic.all (Arithmetic.half wide) + lower) / b) × (r .low ≡ (upper * Arithmetic.all (Arithmetic.half wide) + lower) % b) ⌝ }
+    requires { ⌜ (upper < b) × (b < Arithmetic.span (Arithmetic.half wide)) × (lower < Arithmetic.span (Arithmetic.half wide)) ⌝ }
+    ensures { λ r. ⌜ (r .high ≡ (upper * Arithmetic.span (Arithmetic.half wide) + lower) / b) × (r .low ≡ (upper * Arithmetic.span (Arithmetic.half wide) + lower) % b) ⌝ }
 {
     let all = half(wide) * 2;
     let top = upper as u32 * all;

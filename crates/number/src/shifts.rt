@@ -59,7 +59,7 @@ pub fn circular(x: u16, n: u32) -> u16
 
 // A byte in both halves of a word; a word as it stands.
 pub fn repeated(wide: bool, x: u16) -> u16
-    requires { ⌜ x < Arithmetic.all (Arithmetic.half wide) ⌝ }
+    requires { ⌜ x < Arithmetic.span (Arithmetic.half wide) ⌝ }
     ensures { λ r. ⌜ r ≡ Arithmetic.repeated wide x ⌝ }
 {
     if wide {

@@ -14,7 +14,7 @@ pub fn half(wide: bool) -> u32
 
 // How many numbers a width has.
 fn all(wide: bool) -> u32
-    ensures { λ r. ⌜ (r ≡ Arithmetic.all (Arithmetic.half wide)) × (1 ≤ r) × (r ≤ 65536) ⌝ }
+    ensures { λ r. ⌜ (r ≡ Arithmetic.span (Arithmetic.half wide)) × (1 ≤ r) × (r ≤ 65536) ⌝ }
 {
     let h = half(wide);
     let n = h * 2;
@@ -23,7 +23,7 @@ fn all(wide: bool) -> u32
 
 // A number, brought within the width.
 fn wrapped(wide: bool, s: u32) -> u16
-    ensures { λ r. ⌜ r ≡ s % Arithmetic.all (Arithmetic.half wide) ⌝ }
+    ensures { λ r. ⌜ r ≡ s % Arithmetic.span (Arithmetic.half wide) ⌝ }
 {
     let n = all(wide);
     let r = s % n;
@@ -40,7 +40,7 @@ pub fn sum(wide: bool, a: u16, b: u16) -> u16
 
 // The two's complement.
 pub fn complement(wide: bool, x: u16) -> u16
-    requires { ⌜ x < Arithmetic.all (Arithmetic.half wide) ⌝ }
+    requires { ⌜ x < Arithmetic.span (Arithmetic.half wide) ⌝ }
     ensures { λ r. ⌜ r ≡ Arithmetic.complement (Arithmetic.half wide) x ⌝ }
 {
     let d = all(wide) - x as u32;
@@ -161,7 +161,7 @@ pub fn with_condition(c: bool, s: u8) -> u8
 
 // The number without its sign.
 pub fn absolute(wide: bool, x: u16) -> u16
-    requires { ⌜ x < Arithmetic.all (Arithmetic.half wide) ⌝ }
+    requires { ⌜ x < Arithmetic.span (Arithmetic.half wide) ⌝ }
     ensures { λ r. ⌜ r ≡ Arithmetic.absolute (Arithmetic.half wide) x ⌝ }
 {
     if negative(wide, x) {
@@ -172,7 +172,7 @@ pub fn absolute(wide: bool, x: u16) -> u16
 
 // Every bit the other way.
 pub fn inverse(wide: bool, x: u16) -> u16
-    requires { ⌜ x < Arithmetic.all (Arithmetic.half wide) ⌝ }
+    requires { ⌜ x < Arithmetic.span (Arithmetic.half wide) ⌝ }
     ensures { λ r. ⌜ r ≡ Arithmetic.inverse (Arithmetic.half wide) x ⌝ }
 {
     let last = all(wide) - 1;
@@ -182,7 +182,7 @@ pub fn inverse(wide: bool, x: u16) -> u16
 
 // The number as a word of the same sign.
 pub fn extended(wide: bool, x: u16) -> u16
-    requires { ⌜ x < Arithmetic.all (Arithmetic.half wide) ⌝ }
+    requires { ⌜ x < Arithmetic.span (Arithmetic.half wide) ⌝ }
     ensures { λ r. ⌜ r ≡ Arithmetic.extended wide x ⌝ }
 {
     if wide {

@@ -9,7 +9,7 @@ use lib.Dec.{ltb}
 use lib.ListN.{length, getD, set, take}
 use Rattle.rules.specs.Machine.{pick, Kind, reach, Mem, cells, put, beside, onward}
 use Rattle.rules.specs.Answers.{number, noRoom, offGrom, outside}
-use Rattle.rules.specs.Journal.{lay, Store, storeOf, wordOf, make, Note, note, restore, off, undoTop, undo, blank, blanked}
+use Rattle.rules.specs.Journal.{lay, Store, storeOf, wordOf, make, Note, note, restore, zeroTop, undoTop, undo, blank, blanked}
 use Rattle.rules.specs.Rules.{Act, next, grom, ask, jump, load, store, Rule, give, refuse, act, Out, got, stopped, then, room, perform, exec}
 use Rattle.rules.proofs.Undo.{restore-beside}
 
@@ -137,10 +137,10 @@ unfolding undoTop
 undoTop-clear zero j m = refl
 undoTop-clear (suc u) j m =
     let x : Note = note (getD j u 0) in
-    ap (λ (y : Mem). clear (off u y)) (restore-beside x j (suc u) m)
+    ap (λ (y : Mem). clear (zeroTop u y)) (restore-beside x j (suc u) m)
     ∙ ap (λ (l : List ℕ). beside l u (restore x m)) (keep-set u j u 0 (le-refl u) ∙ sym (keep-off u j))
-    ∙ ap (off u) (sym (restore-beside x (keep (suc u) j) (suc u) m))
-    ∙ ap (λ (w : ℕ). off u (restore (note w) (clear (beside j (suc u) m)))) (sym (getD-keep (suc u) j u (le-refl (suc u))))
+    ∙ ap (zeroTop u) (sym (restore-beside x (keep (suc u) j) (suc u) m))
+    ∙ ap (λ (w : ℕ). zeroTop u (restore (note w) (clear (beside j (suc u) m)))) (sym (getD-keep (suc u) j u (le-refl (suc u))))
 
 pub undo-clear : (n : ℕ) (m : Mem) → clear (undo n m) ≡ undo n (clear m)
 unfolding undo

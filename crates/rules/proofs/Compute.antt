@@ -3,8 +3,8 @@ use Rattle.rules.specs.Machine.{_also_, bit}
 use Rattle.rules.specs.Journal.{word, markWord, note, undoTop, undo}
 use Rattle.rules.specs.Rules.{_>>=_, perform, exec, after, valued, actStores, stores, need, nextWord, peekWord}
 use Rattle.rules.specs.Operands.{shortOffset, offset, addIndex, indexed, throughWord, throughByte, popCell, throughPad, named, farCell}
-use Rattle.rules.specs.Operands.{anyCell, operandOf, position, draw, screenByte, toScreen, loadBuffer, refresh, standing, value, pokeWord}
-use Rattle.rules.specs.Operands.{storeValue, echo, result, operandValue, immediate, source}
+use Rattle.rules.specs.Operands.{anyCell, reached, operandOf, position, draw, screenByte, toScreen, loadBuffer, refresh, standing, value}
+use Rattle.rules.specs.Operands.{pokeWord, storeValue, echo, result, operandValue, immediate, source}
 use Rattle.rules.specs.Opcodes.{moveClass, classOf}
 use Rattle.rules.specs.Arithmetic.{above, complement, extended, statusByte, compared, withCondition, tested, sum, carries, overflows, sumStatus}
 use Rattle.rules.specs.Arithmetic.{shiftCount, arithmetic, leftward, rightward, circular, repeated, absolute, inverse, oneEffect, twoEffect}
@@ -14,7 +14,7 @@ use Rattle.rules.specs.Instructions.{exRule, raise, pushPc, popPc, pushR
 use Rattle.rules.specs.Instructions.{rtncRule, caseRule, fetchRule, randRule, backRule, fill, allRule, moveLength, registerCell, moveTarget}
 use Rattle.rules.specs.Instructions.{gromSource, cellSource, moveSource, sourceByte, registerOne, deliver, moveByte, moveBytes, moveCount}
 use Rattle.rules.specs.Instructions.{moveRule}
-use Rattle.rules.specs.Format.{setCursor, wrapped, lowered, show, skip, showNext, text, showTimes, repeatText, cpuOperand, showCell}
+use Rattle.rules.specs.Format.{setCursor, wrapShow, wrapSkip, show, skip, showNext, text, showTimes, repeatText, cpuOperand, showCell}
 use Rattle.rules.specs.Format.{padText, operandText, goOn, openBlock, closeBlock, repeatBlock, blockTurn, endInside, settleCursor}
 use Rattle.rules.specs.Format.{endOutside, endCode, gromBias, operandBias, cursorCode, codeRule, code, codes, fmtRule}
 use Rattle.rules.specs.Tasks.{ruleOf}
@@ -26,7 +26,7 @@ unfoldable pub everyRule : Unit {0}
 unfolding _also_ bit
     word markWord note undoTop undo
     _>>=_ perform exec after valued actStores stores need nextWord peekWord
-    shortOffset offset addIndex indexed throughWord throughByte popCell throughPad named farCell anyCell operandOf position draw screenByte
+    shortOffset offset addIndex indexed throughWord throughByte popCell throughPad named farCell anyCell reached operandOf position draw screenByte
     toScreen loadBuffer refresh standing value pokeWord storeValue echo result operandValue immediate source
     moveClass classOf
     above complement extended statusByte compared withCondition tested sum carries overflows sumStatus shiftCount arithmetic leftward rightward
@@ -34,7 +34,7 @@ unfolding _also_ bit
     setCondition storeEffect oneRule twoRule testRule mulRule divOverflow divResults divided divRule exRule raise pushPc popPc pushRule jumpInGroup
     jumpIf branchRule longRule callRule rtnRule rtncRule caseRule fetchRule randRule backRule fill allRule moveLength registerCell moveTarget
     gromSource cellSource moveSource sourceByte registerOne deliver moveByte moveBytes moveCount moveRule
-    setCursor wrapped lowered show skip showNext text showTimes repeatText cpuOperand showCell padText operandText goOn openBlock closeBlock
+    setCursor wrapShow wrapSkip show skip showNext text showTimes repeatText cpuOperand showCell padText operandText goOn openBlock closeBlock
     repeatBlock blockTurn endInside settleCursor endOutside endCode gromBias operandBias cursorCode codeRule code codes fmtRule
     ruleOf
     imageFits partsFit takeMark begin attempt fitStep step beginStores stepStores steps run scan fitBack stepBack view

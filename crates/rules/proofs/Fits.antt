@@ -9,14 +9,11 @@ use borrow.Author.Tests.{le-leb, leb-true}
 use Rattle.rules.specs.Machine.{pick, _also_, cpu, vdp, register, size, Mem, State, state}
 use Rattle.rules.specs.Answers.{number, wrongLength}
 use Rattle.rules.specs.Journal.{markWord, lay, Store}
-use Rattle.rules.specs.Calls.{imageFits, partsFit, memFits, Reply, done, refused, left, fitStep, step, stepStores, fitBack, stepBack}
+use Rattle.rules.specs.Calls.{partsFit, memFits, fits, Reply, done, refused, left, fitStep, step, stepStores, fitBack, stepBack}
 use Rattle.rules.specs.Demands.{Good, Accepted}
 use Rattle.rules.proofs.Stores.{Made, lengths-after, journal-length, used-fits}
 use Rattle.rules.proofs.Clear.{keep, length-keep}
 use Rattle.rules.proofs.Steps.{Stepped, Settled, settled, clearS, clearR, step-clear, back-clear}
-
-abbrev pub fits : List ℕ → State → Bool
-fits i s = imageFits (length i) also memFits (s .mem)
 
 abbrev Is : Bool → Type 0
 Is true = Unit {0}

@@ -1,11 +1,12 @@
 -- One rule after the other: the laws by which a function that calls others in a row follows the rule that lists them in a row.
-use mathlib.Core.Path.{_≡_, refl, _∙_, ap, sym}
+use mathlib.Core.Path.{_≡_, refl, _∙_, ap, ap₂, sym}
 use mathlib.Core.Bool.{Bool, true, false}
 use mathlib.Core.List.{List}
-use Prim.Native.Nat.{ℕ}
-use Rattle.rules.specs.Machine.{Mem, pick}
+use Prim.Native.Nat.{ℕ, _%_}
+use native.Mathlib.Omega.{arith}
+use Rattle.rules.specs.Machine.{Kind, Mem, pick}
 use Rattle.rules.specs.Answers.{Why}
-use Rattle.rules.specs.Rules.{Rule, give, refuse, act, _>>=_, Out, got, stopped, then, perform, exec, after, valued, need}
+use Rattle.rules.specs.Rules.{Rule, give, refuse, act, _>>=_, Out, got, stopped, then, perform, exec, after, valued, poke, need}
 
 then-then : {A B C : Type 0} (o : Out A) (g : A → ℕ → Mem → Out B) (h : B → ℕ → Mem → Out C) (w : A → ℕ → Mem → Out C)
     → ((a : A) (pc : ℕ) (m : Mem) → w a pc m ≡ then (g a pc m) h) → then o w ≡ then (then o g) h
@@ -57,6 +58,11 @@ unfolding after exec valued
 gives i (got a pc m) v w e = rw e refl
 gives i (stopped n m) v w e = refl
 
+-- a value that was read, given once more
+pub regives : {A : Type 0} (i : List ℕ) (o : Out (Unit {0})) (v w : A) (o₁ o₂ : Out (Unit {0})) (r : Rule A)
+    → valued v o₁ ≡ after i o r → w ≡ v → valued w o₂ ≡ after i o₁ (give w) → valued w o₂ ≡ after i o r
+regives i o v w o₁ o₂ r e q h = h ∙ sym (gives i o₁ w w refl) ∙ ap (λ (x : _). valued x o₁) q ∙ e
+
 pub idle : (i : List ℕ) (o : Out (Unit {0})) → o ≡ after i o (give tt)
 unfolding after exec
 idle i (got a pc m) = refl
@@ -67,6 +73,11 @@ idle i (stopped n m) = refl
 -- of an equal number
 pub via : {A B : Type 0} (i : List ℕ) (o : Out (Unit {0})) (o₁ : Out A) (f : B → Rule A) (a b : B) → a ≡ b → o₁ ≡ after i o (f a) → o₁ ≡ after i o (f b)
 via i o o₁ f a b e h = h ∙ ap (λ (x : _). after i o (f x)) e
+
+-- of two equal values
+pub via₂ : {A B C : Type 0} (i : List ℕ) (o : Out (Unit {0})) (o₁ : Out A) (f : B → C → Rule A) (a b : B) (c d : C) → a ≡ b → c ≡ d
+    → o₁ ≡ after i o (f a c) → o₁ ≡ after i o (f b d)
+via₂ i o o₁ f a b c d e k h = h ∙ ap₂ (λ (x : _) (y : _). after i o (f x y)) e k
 
 -- an equal rule
 pub by-rule : {A : Type 0} (i : List ℕ) (o : Out (Unit {0})) (o₁ : Out A) (r s : Rule A) → s ≡ r → o₁ ≡ after i o r → o₁ ≡ after i o s
@@ -89,3 +100,12 @@ need-met c why e = rw e
 pub need-unmet : (c : Bool) (why : Why) → c ≡ false → need c why ≡ refuse why
 unfolding need
 need-unmet c why e = rw e
+
+-- ---- a store keeps a byte of what it is given
+
+pub kept-byte : {A : Type 0} (i : List ℕ) (o : Out A) (k : Kind) (a b c : ℕ) → c ≡ b % 256 → after i o (poke k a c) ≡ after i o (poke k a b)
+unfolding after exec perform
+kept-byte i (got x pc m) k a b c e =
+    let z : c % 256 ≡ b % 256 = omega arith in
+    rw z
+kept-byte i (stopped n m) k a b c e = refl

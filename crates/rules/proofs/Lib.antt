@@ -7,5 +7,6 @@ pub mod Fits
 pub mod History
 pub mod Run
 pub mod Opcodes
+pub mod Numbered
 pub mod Compute
 pub mod Cards

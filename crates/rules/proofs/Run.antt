@@ -8,11 +8,10 @@ use native.Mathlib.Omega.{arith}
 use lib.ListN.{length, replicate}
 use Rattle.rules.specs.Machine.{State}
 use Rattle.rules.specs.Answers.{number, wrongLength}
-use Rattle.rules.specs.Calls.{Reply, done, refused, left, step, stepStores, Report, report, onto, steps, run}
+use Rattle.rules.specs.Calls.{fits, Reply, done, refused, left, step, stepStores, Report, report, onto, steps, run}
 use Rattle.rules.specs.Demands.{Good, Accepted, AllAccepted, forward, total, Ends, full, cut}
 use Rattle.rules.proofs.Stores.{used-after}
 use Rattle.rules.proofs.Steps.{Stepped}
-use Rattle.rules.proofs.Fits.{fits}
 use Rattle.rules.proofs.History.{stepped-forward}
 
 -- ---- the first step comes first

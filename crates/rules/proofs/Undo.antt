@@ -11,7 +11,7 @@ use lib.ListN.{length, getD, set, length-set}
 use lib.Seq.{set-set, set-getD, set-comm, getD-set-same, getD-set-other}
 use borrow.Author.Tests.{lt-ltb}
 use Rattle.rules.specs.Machine.{pick, Kind, cpu, vdp, register, reach, Mem, mem, cells, put, beside}
-use Rattle.rules.specs.Journal.{kindNumber, word, markWord, lay, Store, wordOf, make, Note, stood, mark, unsound, stoodIn, noteOf, note, restore, off, undoTop, undo, blank, blanked}
+use Rattle.rules.specs.Journal.{kindNumber, word, markWord, lay, Store, wordOf, make, Note, stood, mark, unsound, stoodIn, noteOf, note, restore, zeroTop, undoTop, undo, blank, blanked}
 use Rattle.rules.specs.Rules.{Rule, exec, stores}
 use Rattle.rules.specs.Demands.{Bytes}
 use Rattle.rules.proofs.Stores.{memOf, Sound, Made, none, one, makes, used-after}
@@ -144,8 +144,8 @@ undo-lay n w x m e h =
     let u : ℕ = m .used in
     let j : List ℕ = blank n (suc u) (set (m .journal) u w) in
     let top : getD j u 0 ≡ w = blank-below n (suc u) (set (m .journal) u w) u (le-refl (suc u)) ∙ getD-set-same (m .journal) u w 0 h in
-    ap (λ (y : Note). off u (restore y (beside j (suc u) m))) (ap note top ∙ e)
-    ∙ ap (off u) (restore-beside x j (suc u) m)
+    ap (λ (y : Note). zeroTop u (restore y (beside j (suc u) m))) (ap note top ∙ e)
+    ∙ ap (zeroTop u) (restore-beside x j (suc u) m)
     ∙ ap (λ (l : List ℕ). beside l u (restore x m)) (set-blank n (suc u) (m .journal) u w 0 (le-refl (suc u)))
 
 undo-make : (n : ℕ) (s : Store) (m : Mem) → Bytes m → Sound s m → undoTop (suc (m .used)) (blanked n (make s m)) ≡ blanked (suc n) m

@@ -12,8 +12,8 @@ abbrev pub half : Width → ℕ
 half w = pick w 0x8000 0x80
 
 -- how many numbers there are
-abbrev pub all : ℕ → ℕ
-all h = h * 2
+abbrev pub span : ℕ → ℕ
+span h = h * 2
 
 -- ---- signs
 
@@ -23,7 +23,7 @@ negative h x = leb h x
 
 -- a number's place in the order of signed numbers
 abbrev pub rank : ℕ → ℕ → ℕ
-rank h x = (x + h) % all h
+rank h x = (x + h) % span h
 
 -- the first is above the second, signed
 unfoldable pub above : ℕ → ℕ → ℕ → Bool
@@ -31,13 +31,14 @@ above h a b = ltb (rank h b) (rank h a)
 
 -- the two's complement
 unfoldable pub complement : ℕ → ℕ → ℕ
-complement h x = (all h - x) % all h
+complement h x = (span h - x) % span h
 
 -- "Byte values count as sign-extended unless said."
 unfoldable pub extended : Width → ℕ → ℕ
 extended w x = pick w x (pick (negative 0x80 x) (x + 0xFF00) x)
 
--- ---- "Status: >80 logical high (not 0), >40 greater (above 0, signed), >20 condition, >10 carry, >08 overflow. The low three bits are written 0 (*own rule*)"
+-- ---- "Status: >80 logical high (not 0), >40 greater (above 0, signed), >20 condition, >10 carry, >08 overflow. The low three bits are written 0 (*own rule*),
+-- except by DIV and where only the condition bit changes."
 
 abbrev pub flag : Bool → ℕ → ℕ
 flag c n = pick c n 0
@@ -66,10 +67,10 @@ tested overflow s = bit 3 s
 -- ---- sums
 
 unfoldable pub sum : ℕ → ℕ → ℕ → ℕ
-sum h a b = (a + b) % all h
+sum h a b = (a + b) % span h
 
 unfoldable pub carries : ℕ → ℕ → ℕ → Bool
-carries h a b = leb (all h) (a + b)
+carries h a b = leb (span h) (a + b)
 
 abbrev pub differ : Bool → Bool → Bool
 differ true b = pick b false true
@@ -115,14 +116,14 @@ absolute h x = pick (negative h x) (complement h x) x
 
 -- INV
 unfoldable pub inverse : ℕ → ℕ → ℕ
-inverse h x = all h - 1 - x
+inverse h x = span h - 1 - x
 
 -- ---- what an instruction stores, by its operands' values
 
 pub data Effect : Type 0 where
   -- "status stored, then result"
   both : ℕ → ℕ → Effect
-  -- a result and "no status"
+  -- "ABS, NEG, INV, CLR, ST, EX, shifts: no status."
   only : ℕ → Effect
   -- status and no result
   flags : ℕ → Effect
@@ -137,18 +138,18 @@ added h a b = both (sumStatus h a b) (sum h a b)
 abbrev pub logical : ℕ → ℕ → Effect
 logical h r = both (compared h r 0 false false) r
 
-unfoldable pub oneEffect : One → ℕ → ℕ → Effect
-oneEffect abs h v = only (absolute h v)
-oneEffect neg h v = only (complement h v)
-oneEffect inv h v = only (inverse h v)
-oneEffect clr h v = only 0
+unfoldable pub oneEffect : One → Width → ℕ → Effect
+oneEffect abs w v = only (absolute (half w) v)
+oneEffect neg w v = only (complement (half w) v)
+oneEffect inv w v = only (inverse (half w) v)
+oneEffect clr w v = only 0
 -- "CZ (value against 0) .. high, greater, condition (equal), rest 0 (*own rule*)"
-oneEffect cz h v = flags (compared h v 0 false false)
+oneEffect cz w v = flags (compared (half w) v 0 false false)
 -- "INC to DECT add 1, -1, 2, -2."
-oneEffect inc h v = added h v 1
-oneEffect dec h v = added h v (complement h 1)
-oneEffect inct h v = added h v 2
-oneEffect dect h v = added h v (complement h 2)
+oneEffect inc w v = added (half w) v 1
+oneEffect dec w v = added (half w) v (complement (half w) 1)
+oneEffect inct w v = added (half w) v 2
+oneEffect dect w v = added (half w) v (complement (half w) 2)
 
 -- a is the destination's value, b the source's
 unfoldable pub twoEffect : Two → Width → ℕ → ℕ → Effect

@@ -1,7 +1,7 @@
 -- 01, "What a call says": step, run, step-back and viewer.
 use mathlib.Core.Bool.{Bool, true, false}
 use mathlib.Core.List.{List, []}
-use Prim.Native.Nat.{ℕ, zero, suc, _+_, _-_, _%_}
+use Prim.Native.Nat.{ℕ, zero, suc, _+_, _-_, _*_, _%_}
 use lib.Dec.{leb, eqb}
 use lib.ListN.{length, getD, take, drop}
 use Rattle.rules.specs.Machine.{pick, _also_, Kind, cpu, vdp, register, size, reach, group, Mem, State, state, cells}
@@ -15,7 +15,7 @@ use Rattle.rules.specs.Tasks.{ruleOf}
 
 -- "1 to 8 groups of 8,192 bytes"
 unfoldable pub imageFits : ℕ → Bool
-imageFits n = eqb (n % group) 0 also leb group n also leb n 65536
+imageFits n = eqb (n % group) 0 also leb group n also leb n (8 * group)
 
 -- "256 bytes", "16,384 bytes", "8 bytes", "0 to 1,048,576 words"; by the lengths of pad, VDP RAM, registers and journal, and the used count
 unfoldable pub partsFit : ℕ → ℕ → ℕ → ℕ → ℕ → Bool
@@ -23,6 +23,9 @@ partsFit p v r j u = eqb p (size cpu) also eqb v (size vdp) also eqb r (size reg
 
 abbrev pub memFits : Mem → Bool
 memFits m = partsFit (length (m .pad)) (length (m .vram)) (length (m .regs)) (length (m .journal)) (m .used)
+
+abbrev pub fits : List ℕ → State → Bool
+fits i s = imageFits (length i) also memFits (s .mem)
 
 -- ---- a step
 
@@ -62,7 +65,7 @@ fitStep i s = settle s (attempt i s)
 
 -- "Answer 11 is tested first and touches nothing."
 unfoldable pub step : List ℕ → State → Reply
-step i s = pick (imageFits (length i) also memFits (s .mem)) (fitStep i s) (refused (number wrongLength) s)
+step i s = pick (fits i s) (fitStep i s) (refused (number wrongLength) s)
 
 -- ---- its stores: "the number of byte stores those steps made"
 
@@ -102,7 +105,7 @@ steps (suc n) i s = onto (step i s) (length (stepStores i s)) (steps n i (left (
 
 -- "n = 0 answers 0 after test 11."
 unfoldable pub run : ℕ → List ℕ → State → Report
-run n i s = pick (imageFits (length i) also memFits (s .mem)) (steps n i s) (report (number wrongLength) 0 0 s)
+run n i s = pick (fits i s) (steps n i s) (report (number wrongLength) 0 0 s)
 
 -- ---- a step back
 
@@ -121,6 +124,7 @@ seen (stood k a b) f = further f
 seen (mark pc) f = found 1 pc
 seen unsound f = lost
 
+-- "no mark lies below the used count, or a word of that record names no cell": then nothing is found. "Setting used to 0 forgets."
 unfoldable pub scan : ℕ → List ℕ → Find
 scan zero j = lost
 scan (suc u) j = seen (note (getD j u 0)) (scan u j)

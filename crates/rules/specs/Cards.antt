@@ -9,7 +9,7 @@ use Rattle.rules.specs.Machine.{_also_, Kind, cpu, vdp, register, size, 
 use Rattle.rules.specs.Calls.{Report, run}
 
 -- bytes from an address on
-pub record Bytes : Type 0 where
+pub record Code : Type 0 where
   pub at : ℕ
   pub these : List ℕ
 
@@ -21,7 +21,7 @@ pub record Holds : Type 0 where
 
 pub record Case : Type 0 where
   -- given: the image's bytes, the cells, pc, and how many steps to run
-  pub image : List Bytes
+  pub image : List Code
   pub given : List Holds
   pub from : ℕ
   pub run : ℕ
@@ -38,8 +38,8 @@ hex zero x = []
 hex (suc n) x = hex n (x / 256) ++ x % 256 ∷ []
 
 -- n bytes of code, from an address on
-abbrev pub bytes : ℕ → ℕ → ℕ → Bytes
-bytes n x a = record { at = a; these = hex n x }
+abbrev pub code : ℕ → ℕ → ℕ → Code
+code n x a = record { at = a; these = hex n x }
 
 -- a cell of the pad, of VDP RAM, a register
 abbrev pub pad : ℕ → ℕ → Holds
@@ -53,7 +53,7 @@ reg a b = record { kind = register; at = a; byte = b }
 
 -- ---- the test
 
-abbrev pub burnt : List Bytes → List ℕ → List ℕ
+abbrev pub burnt : List Code → List ℕ → List ℕ
 burnt [] i = i
 burnt (b ∷ bs) i = burnt bs (sets i (b .at) (b .these))
 
@@ -83,16 +83,16 @@ everyPasses (c ∷ cs) = passes c also everyPasses cs
 
 -- ---- cards a to l
 
--- one step of some bytes of code at 0, which is done: the pc and the number of stores that it leaves, and cells
-abbrev pub card : Bytes → List Holds → ℕ → ℕ → List Holds → Case
-card code given pc stores left =
-    record { image = code ∷ []; given = given; from = 0; run = 1; answer = 0; steps = 1; stores = stores; pc = pc; left = left }
+-- one step of some code, which is done: the number of stores, the pc and the cells that it leaves
+abbrev pub card : Code → List Holds → ℕ → ℕ → List Holds → Case
+card first given stores pc left =
+    record { image = first ∷ []; given = given; from = 0; run = 1; answer = 0; steps = 1; stores = stores; pc = pc; left = left }
 
 -- ">43 at >1FFF, >10 at 0, pc >1FFF: pc >0310."
 abbrev pub cardJ : Case
 cardJ =
     record {
-      image = bytes 1 0x43 0x1FFF ∷ bytes 1 0x10 0 ∷ [];
+      image = code 1 0x43 0x1FFF ∷ code 1 0x10 0 ∷ [];
       given = [];
       from = 0x1FFF;
       run = 1;
@@ -106,59 +106,60 @@ cardJ =
 abbrev pub cards : List Case
 cards =
     -- a. "`A20001`, pad 00 = >7F: >80, status >88."
-    card (bytes 3 0xA20001 0) (pad 0 0x7F ∷ []) 3 2 (pad 0 0x80 ∷ pad status 0x88 ∷ [])
+    card (code 3 0xA20001 0) (pad 0 0x7F ∷ []) 2 3 (pad 0 0x80 ∷ pad status 0x88 ∷ [])
     -- b. "`A60080`, >80: 0, status >38."
-    ∷ card (bytes 3 0xA60080 0) (pad 0 0x80 ∷ []) 3 2 (pad 0 0 ∷ pad status 0x38 ∷ [])
+    ∷ card (code 3 0xA60080 0) (pad 0 0x80 ∷ []) 2 3 (pad 0 0 ∷ pad status 0x38 ∷ [])
     -- c. "`A60000`, 5: 5, status >C0."
-    ∷ card (bytes 3 0xA60000 0) (pad 0 5 ∷ []) 3 2 (pad 0 5 ∷ pad status 0xC0 ∷ [])
+    ∷ card (code 3 0xA60000 0) (pad 0 5 ∷ []) 2 3 (pad 0 5 ∷ pad status 0xC0 ∷ [])
     -- d. "`A80002`, >82 and pad 02 = >F3: >7B66 (guide)."
-    ∷ card (bytes 3 0xA80002 0) (pad 0 0x82 ∷ pad 2 0xF3 ∷ []) 3 2 (pad 0 0x7B ∷ pad 1 0x66 ∷ pad status 0 ∷ [])
+    ∷ card (code 3 0xA80002 0) (pad 0 0x82 ∷ pad 2 0xF3 ∷ []) 2 3 (pad 0 0x7B ∷ pad 1 0x66 ∷ pad status 0 ∷ [])
     -- e. "`AE0008`, >0105: >20, >05, status 0."
-    ∷ card (bytes 3 0xAE0008 0) (pad 0 0x01 ∷ pad 1 0x05 ∷ []) 3 3 (pad 0 0x20 ∷ pad 1 0x05 ∷ pad status 0 ∷ [])
+    ∷ card (code 3 0xAE0008 0) (pad 0 0x01 ∷ pad 1 0x05 ∷ []) 3 3 (pad 0 0x20 ∷ pad 1 0x05 ∷ pad status 0 ∷ [])
     -- f. "`AE0001`, >0105: unchanged, status >08."
-    ∷ card (bytes 3 0xAE0001 0) (pad 0 0x01 ∷ pad 1 0x05 ∷ []) 3 2 (pad 0 0x01 ∷ pad 1 0x05 ∷ pad status 0x08 ∷ [])
+    ∷ card (code 3 0xAE0001 0) (pad 0 0x01 ∷ pad 1 0x05 ∷ []) 2 3 (pad 0 0x01 ∷ pad 1 0x05 ∷ pad status 0x08 ∷ [])
     -- g. "`E20000`, >FF: 0."
-    ∷ card (bytes 3 0xE20000 0) (pad 0 0xFF ∷ []) 3 1 (pad 0 0 ∷ pad status 0 ∷ [])
+    ∷ card (code 3 0xE20000 0) (pad 0 0xFF ∷ []) 1 3 (pad 0 0 ∷ pad status 0 ∷ [])
     -- h. "`DE0003`, >90: >F2."
-    ∷ card (bytes 3 0xDE0003 0) (pad 0 0x90 ∷ []) 3 1 (pad 0 0xF2 ∷ pad status 0 ∷ [])
+    ∷ card (code 3 0xDE0003 0) (pad 0 0x90 ∷ []) 1 3 (pad 0 0xF2 ∷ pad status 0 ∷ [])
     -- i. "`0209`: seed >7AB9, pad 78 = 2."
-    ∷ card (bytes 2 0x0209 0) [] 2 3 (pad seedCell 0x7A ∷ pad 0xC1 0xB9 ∷ pad randomNumber 2 ∷ [])
+    ∷ card (code 2 0x0209 0) [] 3 2 (pad seedCell 0x7A ∷ pad 0xC1 0xB9 ∷ pad randomNumber 2 ∷ [])
     -- j
     ∷ cardJ
     -- k. "`8A00`, >FF: pc 0."
-    ∷ card (bytes 2 0x8A00 0) (pad 0 0xFF ∷ []) 0 1 (pad status 0 ∷ [])
+    ∷ card (code 2 0x8A00 0) (pad 0 0xFF ∷ []) 1 0 (pad status 0 ∷ [])
     -- l. "`08C10041FB0002FB`: screen 0, 1 = >41, pc 8, 13 stores, pad 80 = 0."
-    ∷ card (bytes 8 0x08C10041FB0002FB 0) [] 8 13 (vram 0 0x41 ∷ vram 1 0x41 ∷ pad 0x80 0 ∷ pad subPointer 0x7E ∷ pad ypt 0 ∷ pad xpt 2 ∷ [])
+    ∷ card (code 8 0x08C10041FB0002FB 0) [] 13 8 (vram 0 0x41 ∷ vram 1 0x41 ∷ pad 0x80 0 ∷ pad subPointer 0x7E ∷ pad ypt 0 ∷ pad xpt 2 ∷ [])
     ∷ []
 
 -- ---- the other facts
 
 -- a run of at most n steps from the first byte of some code at 0: its answer, steps, stores, pc, and cells
-abbrev pub runs : Bytes → List Holds → ℕ → ℕ → ℕ → ℕ → ℕ → List Holds → Case
-runs code given n answer steps stores pc left =
-    record { image = code ∷ []; given = given; from = 0; run = n; answer = answer; steps = steps; stores = stores; pc = pc; left = left }
+abbrev pub runs : Code → List Holds → ℕ → ℕ → ℕ → ℕ → ℕ → List Holds → Case
+runs first given n answer steps stores pc left =
+    record { image = first ∷ []; given = given; from = 0; run = n; answer = answer; steps = steps; stores = stores; pc = pc; left = left }
 
 -- one step that is refused: its answer
-abbrev pub refuses : Bytes → List Holds → ℕ → Case
-refuses code given answer = runs code given 1 answer 0 0 0 []
+abbrev pub refuses : Code → List Holds → ℕ → Case
+refuses first given answer = runs first given 1 answer 0 0 0 []
 
 abbrev pub facts : List Case
 facts =
     -- 01's sample for the program
-    card (bytes 4 0x08412AFB 0) (pad subPointer 0 ∷ pad ypt 0x17 ∷ pad xpt 0x1F ∷ []) 4 8 (pad ypt 0 ∷ pad xpt 1 ∷ vram 0 0x2A ∷ vram 0x02FF 0x2A ∷ [])
+    card (code 4 0x08412AFB 0) (pad subPointer 0 ∷ pad ypt 0x17 ∷ pad xpt 0x1F ∷ []) 8 4 (pad ypt 0 ∷ pad xpt 1 ∷ vram 0 0x2A ∷ vram 0x02FF 0x2A ∷ [])
     -- "VDP >3FFF as byte passes, as word 5"
-    ∷ card (bytes 4 0x86AF3FFF 0) (vram 0x3FFF 1 ∷ []) 4 1 (vram 0x3FFF 0 ∷ [])
-    ∷ refuses (bytes 4 0x87AF3FFF 0) [] 5
+    ∷ card (code 4 0x86AF3FFF 0) (vram 0x3FFF 1 ∷ []) 1 4 (vram 0x3FFF 0 ∷ [])
+    ∷ refuses (code 4 0x87AF3FFF 0) [] 5
     -- "16 calls deep pass, the 17th is 7"
-    ∷ runs (bytes 3 0x060000 0) [] 16 0 16 64 0 (pad subPointer 0x9E ∷ pad 0x9F 3 ∷ [])
-    ∷ runs (bytes 3 0x060000 0) [] 17 7 16 64 0 (pad subPointer 0x9E ∷ pad 0x9F 3 ∷ [])
-    -- "MOVE from 0 of a one-group image to VDP 0: .. length .. >8001 moves one byte"; and so does length 0
-    ∷ card (bytes 7 0x318001A0000000 0) [] 7 5 (vram 0 0x31 ∷ vram 1 0 ∷ pad subPointer 0x7E ∷ [])
-    ∷ card (bytes 7 0x310000A0000000 0) [] 7 5 (vram 0 0x31 ∷ vram 1 0 ∷ pad subPointer 0x7E ∷ [])
+    ∷ runs (code 3 0x060000 0) [] 16 0 16 64 0 (pad subPointer 0x9E ∷ pad 0x9F 3 ∷ [])
+    ∷ runs (code 3 0x060000 0) [] 17 7 16 64 0 (pad subPointer 0x9E ∷ pad 0x9F 3 ∷ [])
+    -- "MOVE from 0 of a one-group image to VDP 0: length .. >8001 moves one byte"; and so does length 0
+    ∷ card (code 7 0x318001A0000000 0) [] 5 7 (vram 0 0x31 ∷ vram 1 0 ∷ pad subPointer 0x7E ∷ [])
+    ∷ card (code 7 0x310000A0000000 0) [] 5 7 (vram 0 0x31 ∷ vram 1 0 ∷ pad subPointer 0x7E ∷ [])
     -- "GROM source addresses count in 16 bits": the third byte is beyond an image of one group
-    ∷ refuses (bytes 7 0x310003A0001FFE 0) [] 6
+    ∷ refuses (code 7 0x310003A0001FFE 0) [] 6
     -- "A byte for register 1 has bit >80 set .. and goes to >D4 first, then to the register."
-    ∷ card (bytes 6 0x390001010001 0) [] 6 6 (reg 1 0x80 ∷ pad registerCopy 0x80 ∷ [])
+    ∷ card (code 6 0x390001010001 0) [] 6 6 (reg 1 0x80 ∷ pad registerCopy 0x80 ∷ [])
+    ∷ card (code 6 0x390001010000 0) [] 6 6 (reg 1 0xB9 ∷ pad registerCopy 0xB9 ∷ [])
     -- "ALL: 768 screen bytes from 0, then >7E and >7F become 0."
-    ∷ card (bytes 2 0x072A 0) (pad ypt 1 ∷ pad xpt 1 ∷ []) 2 770 (pad ypt 0 ∷ pad xpt 0 ∷ vram 0 0x2A ∷ vram 767 0x2A ∷ vram 768 0 ∷ [])
+    ∷ card (code 2 0x072A 0) (pad ypt 1 ∷ pad xpt 1 ∷ []) 770 2 (pad ypt 0 ∷ pad xpt 0 ∷ vram 0 0x2A ∷ vram 767 0x2A ∷ vram 768 0 ∷ [])
     ∷ []

@@ -1,4 +1,4 @@
--- The words in which the demands are stated: what is supposed of a state, and what a sequence of calls leaves.
+-- The words in which the demands are stated: what is supposed of a state, and what a sequence of calls leaves. README has the three demands; they are quoted here.
 use mathlib.Core.Path.{_≡_}
 use mathlib.Core.List.{List, [], _∷_, _++_, map}
 use Prim.Native.Nat.{ℕ, _+_, _<_}

@@ -17,25 +17,25 @@ setCursor p = do
   poke cpu xpt (p % 32)
 
 -- ">300 to >31F loses >300, >320 and up doesn't"
-unfoldable pub wrapped : ℕ → ℕ
-wrapped p = pick (ltb p 0x300) p (pick (ltb p 0x320) (p - 0x300) p)
+unfoldable pub wrapShow : ℕ → ℕ
+wrapShow p = pick (ltb p 0x300) p (pick (ltb p 0x320) (p - 0x300) p)
 
 -- "A skip loses >300 once from >300 up"
-unfoldable pub lowered : ℕ → ℕ
-lowered p = pick (ltb p 0x300) p (p - 0x300)
+unfoldable pub wrapSkip : ℕ → ℕ
+wrapSkip p = pick (ltb p 0x300) p (p - 0x300)
 
 -- "stored to the screen; the position grows by 1 or 32; .. row (modulo 256) and column are stored"
 unfoldable pub show : ℕ → ℕ → Rule (Unit {0})
 show step b = do
   p ← position
   draw p b
-  setCursor (wrapped (p + step))
+  setCursor (wrapShow (p + step))
 
 -- "A skip .. then stores row and column likewise."
 unfoldable pub skip : ℕ → Rule (Unit {0})
 skip n = do
   p ← position
-  setCursor (lowered (p + n))
+  setCursor (wrapSkip (p + n))
 
 -- ---- text
 
@@ -116,10 +116,10 @@ openBlock n bias blocks = do
   poke cpu p (256 - n)
   give (on bias (suc blocks))
 
--- "at 0 it lowers >73": by 2, in a byte
+-- "at 0 it lowers >73"
 unfoldable pub closeBlock : ℕ → ℕ → ℕ → Rule Turn
 closeBlock p bias blocks = do
-  poke cpu subPointer (p + 254)
+  poke cpu subPointer (p - 2)
   give (on bias (blocks - 1))
 
 -- "else pc goes there"
@@ -204,14 +204,14 @@ code bias blocks = do
   codeRule bias blocks c
 
 -- by where the format string stands
-abbrev pub upTurn : {A : Type 0} → Turn → A → (ℕ → ℕ → A) → A
-upTurn over x f = x
-upTurn (on bias blocks) x f = f bias blocks
+abbrev pub byTurn : {A : Type 0} → Turn → A → (ℕ → ℕ → A) → A
+byTurn over x f = x
+byTurn (on bias blocks) x f = f bias blocks
 
 -- at most n codes more: "a 16,385th format code in one FMT, before it is read"
 unfoldable pub codes : ℕ → Turn → Rule (Unit {0})
-codes zero t = upTurn t (give tt) (λ bias blocks. refuse tooLong)
-codes (suc n) t = upTurn t (give tt) (λ bias blocks. code bias blocks >>= codes n)
+codes zero t = byTurn t (give tt) (λ bias blocks. refuse tooLong)
+codes (suc n) t = byTurn t (give tt) (λ bias blocks. code bias blocks >>= codes n)
 
 -- "Bias starts at 0."
 unfoldable pub fmtRule : Rule (Unit {0})

@@ -5,9 +5,9 @@ use lib.Dec.{leb, eqb}
 use Rattle.rules.specs.Machine.{pick, _also_, bit, cpu, vdp, register, upon, group, joined, lowByte, dataPointer, subPointer, randomNumber, status, ypt, xpt, seedCell, registerCopy}
 use Rattle.rules.specs.Answers.{offStack}
 use Rattle.rules.specs.Rules.{Rule, give, _>>=_, _>>_, nextByte, nextWord, gromByte, here, goto, peek, peekWord, poke, need}
-use Rattle.rules.specs.Operands.{Width, bytes, Cell, cell, past, within, onDataStack, operand, place, indexed, standing, value, pokeWord, result, operandValue, source}
+use Rattle.rules.specs.Operands.{Width, byteCount, Cell, cell, past, within, onDataStack, operand, place, indexed, standing, value, pokeWord, result, operandValue, source}
 use Rattle.rules.specs.Opcodes.{Test, One, Two}
-use Rattle.rules.specs.Arithmetic.{half, all, extended, conditionOf, withCondition, tested, Effect, both, only, flags, condition, oneEffect, twoEffect, nextSeed, randomOf}
+use Rattle.rules.specs.Arithmetic.{half, span, extended, conditionOf, withCondition, tested, Effect, both, only, flags, condition, oneEffect, twoEffect, nextSeed, randomOf}
 
 -- ---- those of one and two operands
 
@@ -31,7 +31,7 @@ unfoldable pub oneRule : One → Width → Rule (Unit {0})
 oneRule op w = do
   c ← operand w
   v ← value w c
-  storeEffect w c (oneEffect op (half w) v)
+  storeEffect w c (oneEffect op w v)
 
 -- "Two, destination first"
 unfoldable pub twoRule : Two → Bool → Width → Rule (Unit {0})
@@ -53,8 +53,8 @@ mulRule imm w = do
   c ← operand w
   a ← value w c
   b ← source imm w
-  result w c (a * b / all (half w))
-  result w (past (bytes w) c) (a * b % all (half w))
+  result w c (a * b / span (half w))
+  result w (past (byteCount w) c) (a * b % span (half w))
 
 -- "status stored as 0 for bytes, 1 for words"
 abbrev pub divStatus : Width → ℕ
@@ -68,19 +68,19 @@ divOverflow w = poke cpu status (divStatus w + 0x08)
 unfoldable pub divResults : Width → Cell → ℕ → ℕ → Rule (Unit {0})
 divResults w c n b = do
   result w c (n / b)
-  result w (past (bytes w) c) (n % b)
+  result w (past (byteCount w) c) (n % b)
 
 unfoldable pub divided : Width → Cell → ℕ → ℕ → ℕ → Rule (Unit {0})
-divided w c upper lower b = pick (leb b upper) (divOverflow w) (divResults w c (upper * all (half w) + lower) b)
+divided w c upper lower b = pick (leb b upper) (divOverflow w) (divResults w c (upper * span (half w) + lower) b)
 
--- "DIV, unsigned, .. status stored .. before the dividend's low half is read"
+-- "DIV, unsigned, its byte width and overflow by *own rule*: status stored .. before the dividend's low half is read."
 unfoldable pub divRule : Bool → Width → Rule (Unit {0})
 divRule imm w = do
   c ← operand w
   upper ← value w c
   b ← source imm w
   poke cpu status (divStatus w)
-  lower ← standing w (past (bytes w) c)
+  lower ← standing w (past (byteCount w) c)
   divided w c upper lower b
 
 -- "EX stores destination first."

@@ -75,13 +75,13 @@ restore (mark pc) m = m
 restore unsound m = m
 
 -- the word at u is zeroed, and no longer used
-abbrev pub off : ℕ → Mem → Mem
-off u m = beside (set (m .journal) u 0) u m
+abbrev pub zeroTop : ℕ → Mem → Mem
+zeroTop u m = beside (set (m .journal) u 0) u m
 
 -- the top word, where u are used
 unfoldable pub undoTop : ℕ → Mem → Mem
 undoTop zero m = m
-undoTop (suc u) m = off u (restore (note (getD (m .journal) u 0)) m)
+undoTop (suc u) m = zeroTop u (restore (note (getD (m .journal) u 0)) m)
 
 -- the top n words
 unfoldable pub undo : ℕ → Mem → Mem

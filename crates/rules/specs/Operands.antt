@@ -10,8 +10,8 @@ use Rattle.rules.specs.Rules.{Rule, give, _>>=_, _>>_, nextByte, nextWor
 abbrev pub Width : Type 0
 Width = Bool
 
-abbrev pub bytes : Width → ℕ
-bytes w = pick w 2 1
+abbrev pub byteCount : Width → ℕ
+byteCount w = pick w 2 1
 
 -- a cell, or the first of two
 pub record Cell : Type 0 where
@@ -98,17 +98,22 @@ anyCell b = pick (ltb b 0x80) (give (cell cpu b)) (farCell b)
 abbrev pub inReach : ℕ → Cell → Bool
 inReach n c = leb (c .at + n) (reach (c .kind))
 
--- "The result of decoding is a CPU cell, a VDP cell or a refusal." "A word operand needs both bytes in range."
+-- "A word operand needs both bytes in range."
+unfoldable pub reached : ℕ → Cell → Rule Cell
+reached n c = do
+  need (inReach n c) (outside (c .kind))
+  give c
+
+-- "The result of decoding is a CPU cell, a VDP cell or a refusal."
 -- n bytes from the cell on must be in range: 1 for a byte or for the place of a MOVE or a format string, 2 for a word.
 unfoldable pub operandOf : ℕ → Rule Cell
 operandOf n = do
   b ← nextByte
   c ← anyCell b
-  need (inReach n c) (outside (c .kind))
-  give c
+  reached n c
 
 abbrev pub operand : Width → Rule Cell
-operand w = operandOf (bytes w)
+operand w = operandOf (byteCount w)
 
 -- "its source and destination operands only name a place"
 abbrev pub place : Rule Cell
@@ -160,11 +165,11 @@ loadBuffer = do
 unfoldable pub refresh : Cell → Rule (Unit {0})
 refresh c = pick (isBuffer c) loadBuffer (give tt)
 
--- what stands in a cell or two
+-- what stands in a cell or two, as it stands: "Index words, pointers, DIV's low half when read, MOVE's bytes and format strings do neither."
 unfoldable pub standing : Width → Cell → Rule ℕ
 standing w c = pick w (peekWord (c .kind) (c .at)) (peek (c .kind) (c .at))
 
--- "Every operand is read"
+-- "Every operand is read, also one only stored to."
 unfoldable pub value : Width → Cell → Rule ℕ
 value w c = do
   refresh c
@@ -182,11 +187,11 @@ storeValue w c v = pick w (pokeWord (c .kind) (c .at) v) (poke (c .kind) (c .at)
 unfoldable pub echo : Cell → ℕ → Rule (Unit {0})
 echo c b = pick (isBuffer c) (toScreen b) (give tt)
 
--- "If a result's last byte .. goes to pad >7D, that byte then goes to the screen too."
+-- "If a result's last byte (each half of MUL's or DIV's is one) goes to pad >7D, that byte then goes to the screen too."
 unfoldable pub result : Width → Cell → ℕ → Rule (Unit {0})
 result w c v = do
   storeValue w c v
-  echo (past (bytes w - 1) c) (lowByte v)
+  echo (past (byteCount w - 1) c) (lowByte v)
 
 -- ---- an operand's value, and a source's
 

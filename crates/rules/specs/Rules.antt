@@ -49,6 +49,7 @@ pub data Out (A : Type 0) : Type 0 where
   got : A → ℕ → Mem → Out A
   stopped : ℕ → Mem → Out A
 
+-- "Then a step's reads and stores go in the order of this paper; the first cause met is the answer."
 abbrev pub then : {A B : Type 0} → Out A → (A → ℕ → Mem → Out B) → Out B
 then (got a pc m) k = k a pc m
 then (stopped n m) k = stopped n m
@@ -78,7 +79,7 @@ exec (act q k) i pc m = then (perform q i pc m) (λ v pc₁ m₁. exec (k v) i p
 unfoldable pub after : {A B : Type 0} → List ℕ → Out A → Rule B → Out B
 after i o r = then o (λ _ pc m. exec r i pc m)
 
--- a value beside what went before it
+-- a value beside what went before it, as the contracts of the code have it
 unfoldable pub valued : {A : Type 0} → A → Out (Unit {0}) → Out A
 valued v (got a pc m) = got v pc m
 valued v (stopped n m) = stopped n m

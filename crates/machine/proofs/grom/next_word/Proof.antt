@@ -22,7 +22,7 @@ unfolding nextWord
 returns c =
     λ p v g j.
     bind _ _ _ _ _ _ _ (c .before .before .before .next-byte .ensures p v g j) (bind _ _ _ _ _ _ _ (c .before .before .next-byte2 .ensures p v g j)
-    (via _ _ _ give _ _ (c .before .word-of .ensures) (c .give-word .ensures _ p v g j)))
+    (via _ _ _ give _ _ (c .before .word-of .ensures) (c .give-word .ensures .1 _ p v g j)))
 
 pub next-word-spec : {M : Type 1} → statement M
 next-word-spec =

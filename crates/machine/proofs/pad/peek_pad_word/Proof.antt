@@ -25,7 +25,7 @@ unfolding peekWord
 returns c =
     λ i v g j.
     bind _ _ _ _ _ _ _ (c .before .before .before .peek-pad .ensures i v g j) (bind _ _ _ _ _ _ _ (c .before .before .peek-pad2 .ensures i v g j)
-    (via _ _ _ give _ _ (c .before .word-of .ensures) (c .give-word .ensures i _ v g j)))
+    (via _ _ _ give _ _ (c .before .word-of .ensures) (c .give-word .ensures .1 i _ v g j)))
 
 pub peek-pad-word-spec : {M : Type 1} → statement M
 peek-pad-word-spec =

@@ -1,0 +1,68 @@
+-- The low byte and the status read, the jump by the condition, which is then cleared.
+use mathlib.Core.Path.{_∙_, ap}
+use mathlib.Core.Bool.{Bool}
+use Rattle.rules.specs.Instructions.{taken, jumpIf, branchRule}
+use Rattle.rules.proofs.Laws.{bind, seq, via}
+use borrow.Author.Needs.{needs}
+use Rattle.flow.proofs.branches.branch.Statement.{statement}
+use Rattle.flow.proofs.branches.branch.Tie as tie
+
+next-byte-requires : tie.Need-next-byte-requires
+next-byte-requires c κs = search needs
+
+peek-pad-requires : tie.Need-peek-pad-requires
+peek-pad-requires c κs = search needs
+
+bit-requires : tie.Need-bit-requires
+bit-requires c κs = search needs
+
+word-of-requires : tie.Need-word-of-requires
+word-of-requires c κs = search needs
+
+taken-requires : tie.Need-taken-requires
+taken-requires c κs = search needs
+
+jump-if-requires : tie.Need-jump-if-requires
+jump-if-requires c κs = search needs
+
+set-condition-requires : tie.Need-set-condition-requires
+set-condition-requires c κs = search needs
+
+same-length : tie.Need-same-length
+same-length c = search needs
+
+same-length-2 : tie.Need-same-length-2
+same-length-2 c = search needs
+
+returns : tie.Need-returns
+unfolding branchRule
+returns c =
+    let at-jump-if = c .before .before .before .before .before .before .before in
+    let at-taken = at-jump-if .before in
+    let at-word-of = at-taken .before in
+    let at-bit = at-word-of .before in
+    let at-peek-pad = at-bit .before in
+    let at-next-byte = at-peek-pad .before .before in
+    let start = at-next-byte .before .before .before .before in
+    let target = at-word-of .word-of in
+    let test = at-taken .taken .ensures ∙ ap (taken (start .args .set)) (at-bit .bit .ensures) in
+    λ v g.
+    bind _ _ _ _ _ _ _ (at-next-byte .next-byte .ensures _ v g _)
+    (bind _ _ _ _ _ _ _ (at-peek-pad .peek-pad .ensures _ v g _)
+    (seq _ _ _ _ _ _ (via _ _ _ (jumpIf _) _ _ (target .ensures) (via _ _ _ (λ (t : Bool). jumpIf t (target .result)) _ _ test (at-jump-if .jump-if .ensures _ _ v g _)))
+    (c .before .before .before .before .set-condition .ensures _ v g)))
+
+pub branch-spec : {M : Type 1} → statement M
+branch-spec =
+    tie.close
+    (tie.spec
+    next-byte-requires
+    peek-pad-requires
+    bit-requires
+    word-of-requires
+    taken-requires
+    jump-if-requires
+    set-condition-requires
+    same-length
+    same-length-2
+    returns)

@@ -1,0 +1,46 @@
+-- The address read, pc pushed, the jump, and the condition cleared.
+use Rattle.rules.specs.Instructions.{callRule}
+use Rattle.rules.proofs.Laws.{bind, seq}
+use borrow.Author.Needs.{needs}
+use Rattle.flow.proofs.branches.call.Statement.{statement}
+use Rattle.flow.proofs.branches.call.Tie as tie
+
+next-word-requires : tie.Need-next-word-requires
+next-word-requires c κs = search needs
+
+push-pc-requires : tie.Need-push-pc-requires
+push-pc-requires c κs = search needs
+
+jump-requires : tie.Need-jump-requires
+jump-requires c κs = search needs
+
+set-condition-requires : tie.Need-set-condition-requires
+set-condition-requires c κs = search needs
+
+same-length : tie.Need-same-length
+same-length c = search needs
+
+same-length-2 : tie.Need-same-length-2
+same-length-2 c = search needs
+
+returns : tie.Need-returns
+unfolding callRule
+returns c =
+    let at-jump = c .before .before .before .before .before .before .before in
+    let at-push-pc = at-jump .before .before .before .before .before in
+    let at-next-word = at-push-pc .before .before .before in
+    λ v g.
+    bind _ _ _ _ _ _ _ (at-next-word .next-word .ensures _ v g _) (seq _ _ _ _ _ _ (at-push-pc .push-pc .ensures _ v g)
+    (seq _ _ _ _ _ _ (at-jump .jump .ensures _ _ v g _) (c .before .before .before .before .set-condition .ensures _ v g)))
+
+pub call-spec : {M : Type 1} → statement M
+call-spec =
+    tie.close
+    (tie.spec
+    next-word-requires
+    push-pc-requires
+    jump-requires
+    set-condition-requires
+    same-length
+    same-length-2
+    returns)

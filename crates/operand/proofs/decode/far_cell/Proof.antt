@@ -1,0 +1,64 @@
+-- The offset, the index, and the cell by V and I, with the bits taken from the first byte.
+use mathlib.Core.Bool.{Bool}
+use Rattle.rules.specs.Operands.{offset, indexed, named, farCell}
+use Rattle.rules.proofs.Laws.{bind, via, via₂}
+use Rattle.rules.proofs.Laws.{bind, via}
+use borrow.Author.Needs.{needs}
+use Rattle.operand.proofs.decode.far_cell.Statement.{statement}
+use Rattle.operand.proofs.decode.far_cell.Tie as tie
+
+nibble-requires : tie.Need-nibble-requires
+nibble-requires c κs = search needs
+
+offset-requires : tie.Need-offset-requires
+offset-requires c κs = search needs
+
+bit-requires : tie.Need-bit-requires
+bit-requires c κs = search needs
+
+indexed-requires : tie.Need-indexed-requires
+indexed-requires c κs = search needs
+
+bit-requires-2 : tie.Need-bit-requires-2
+bit-requires-2 c κs = search needs
+
+bit-requires-3 : tie.Need-bit-requires-3
+bit-requires-3 c κs = search needs
+
+named-requires : tie.Need-named-requires
+named-requires c κs = search needs
+
+same-length : tie.Need-same-length
+same-length c = search needs
+
+same-length-2 : tie.Need-same-length-2
+same-length-2 c = search needs
+
+returns : tie.Need-returns
+unfolding farCell
+returns c =
+    let at-bit3 = c .before .before .before .before .before in
+    let at-bit2 = at-bit3 .before in
+    let at-indexed = at-bit2 .before .before .before in
+    let at-bit = at-indexed .before in
+    let at-offset = at-bit .before .before in
+    let at-nibble = at-offset .before in
+    λ v g.
+    bind _ _ _ _ _ _ _ (via _ _ _ offset _ _ (at-nibble .nibble .ensures) (at-offset .offset .ensures _ v g _))
+    (bind _ _ _ _ _ _ _ (via _ _ _ (λ (x : Bool). indexed x (at-offset .offset .result .word)) _ _ (at-bit .bit .ensures) (at-indexed .indexed .ensures v g _))
+    (via₂ _ _ _ (λ (x y : Bool). named x y (at-indexed .indexed .result .word)) _ _ _ _ (at-bit2 .bit2 .ensures) (at-bit3 .bit3 .ensures) (c .before .before .before .before .named .ensures _ v g)))
+
+pub far-cell-spec : {M : Type 1} → statement M
+far-cell-spec =
+    tie.close
+    (tie.spec
+    nibble-requires
+    offset-requires
+    bit-requires
+    indexed-requires
+    bit-requires-2
+    bit-requires-3
+    named-requires
+    same-length
+    same-length-2
+    returns)

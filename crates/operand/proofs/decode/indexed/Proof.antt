@@ -1,0 +1,22 @@
+-- By the bit X.
+use Rattle.rules.specs.Operands.{indexed}
+use borrow.Author.Needs.{needs}
+use Rattle.operand.proofs.decode.indexed.Statement.{statement}
+use Rattle.operand.proofs.decode.indexed.Tie as tie
+
+add-index-requires : tie.Need-add-index-requires
+add-index-requires c κs = search needs
+
+returns : tie.Need-returns
+unfolding indexed
+returns c = λ v g j. rw (c .before .if1 .taken) (c .add-index .ensures v g j)
+
+give-word-requires : tie.Need-give-word-requires
+give-word-requires c κs = search needs
+
+returns-2 : tie.Need-returns-2
+unfolding indexed
+returns-2 c = λ v g j. rw (c .before .if1 .left) (c .give-word .ensures .1 _ _ v g j)
+
+pub indexed-spec : {M : Type 1} → statement M
+indexed-spec = tie.close (tie.spec add-index-requires returns give-word-requires returns-2)

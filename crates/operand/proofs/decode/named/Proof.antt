@@ -1,0 +1,55 @@
+-- By the bits V and I.
+use mathlib.Core.Path.{refl}
+use Rattle.rules.specs.Operands.{named}
+use Rattle.rules.proofs.Laws.{gives}
+use borrow.Author.Needs.{needs}
+use Rattle.operand.proofs.decode.named.Statement.{statement}
+use Rattle.operand.proofs.decode.named.Tie as tie
+
+through-word-requires : tie.Need-through-word-requires
+through-word-requires c κs = search needs
+
+same-length : tie.Need-same-length
+same-length c = search needs
+
+returns : tie.Need-returns
+unfolding named
+returns c = λ im vr g. rw (c .before .before .before .if1 .taken, c .before .before .if2 .taken) (c .through-word .ensures im vr g _)
+
+returns-2 : tie.Need-returns-2
+unfolding named
+returns-2 c = λ im vr g. rw (c .before .if1 .taken, c .if2 .left) (gives im _ _ _ refl)
+
+through-pad-requires : tie.Need-through-pad-requires
+through-pad-requires c κs = search needs
+
+same-length-2 : tie.Need-same-length-2
+same-length-2 c = search needs
+
+same-length-3 : tie.Need-same-length-3
+same-length-3 c = search needs
+
+returns-3 : tie.Need-returns-3
+unfolding named
+returns-3 c =
+    let at-if3 = c .before .before .before .before .before .before .before in
+    let at-if1 = at-if3 .before in
+    λ im vr g. rw (at-if1 .if1 .left, at-if3 .if3 .taken) (c .before .before .before .before .through-pad .ensures im vr g)
+
+returns-4 : tie.Need-returns-4
+unfolding named
+returns-4 c = λ im vr g. rw (c .before .if1 .left, c .if3 .left) (gives im _ _ _ refl)
+
+pub named-spec : {M : Type 1} → statement M
+named-spec =
+    tie.close
+    (tie.spec
+    through-word-requires
+    same-length
+    returns
+    returns-2
+    through-pad-requires
+    same-length-2
+    same-length-3
+    returns-3
+    returns-4)

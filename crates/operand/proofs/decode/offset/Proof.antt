@@ -1,0 +1,23 @@
+-- By the test of the four bits.
+use borrow.Author.Tests.{eq-eqb, ne-eqb}
+use Rattle.rules.specs.Operands.{offset}
+use borrow.Author.Needs.{needs}
+use Rattle.operand.proofs.decode.offset.Statement.{statement}
+use Rattle.operand.proofs.decode.offset.Tie as tie
+
+next-word-requires : tie.Need-next-word-requires
+next-word-requires c κs = search needs
+
+returns : tie.Need-returns
+unfolding offset
+returns c = λ p v g j. rw (eq-eqb _ _ (c .before .if1 .taken)) (c .next-word .ensures p v g j)
+
+short-offset-requires : tie.Need-short-offset-requires
+short-offset-requires c κs = search needs
+
+returns-2 : tie.Need-returns-2
+unfolding offset
+returns-2 c = λ p v g j. rw (ne-eqb _ _ (c .before .if1 .left)) (c .short-offset .ensures p v g j)
+
+pub offset-spec : {M : Type 1} → statement M
+offset-spec = tie.close (tie.spec next-word-requires returns short-offset-requires returns-2)

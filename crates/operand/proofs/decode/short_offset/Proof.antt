@@ -1,0 +1,26 @@
+-- The low byte, and the word of it.
+use Rattle.rules.specs.Rules.{give}
+use Rattle.rules.specs.Operands.{shortOffset}
+use Rattle.rules.proofs.Laws.{bind, via}
+use borrow.Author.Needs.{needs}
+use Rattle.operand.proofs.decode.short_offset.Statement.{statement}
+use Rattle.operand.proofs.decode.short_offset.Tie as tie
+
+next-byte-requires : tie.Need-next-byte-requires
+next-byte-requires c κs = search needs
+
+word-of-requires : tie.Need-word-of-requires
+word-of-requires c κs = search needs
+
+give-word-requires : tie.Need-give-word-requires
+give-word-requires c κs = search needs
+
+returns : tie.Need-returns
+unfolding shortOffset
+returns c =
+    λ p v g j.
+    bind _ _ _ _ _ _ _ (c .before .before .next-byte .ensures p v g j) (via _ _ _ give _ _ (c .before .word-of .ensures) (c .give-word .ensures .1 _ p v g j))
+
+pub short-offset-spec : {M : Type 1} → statement M
+short-offset-spec =
+    tie.close (tie.spec next-byte-requires word-of-requires give-word-requires returns)

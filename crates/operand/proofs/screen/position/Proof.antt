@@ -1,0 +1,36 @@
+-- Row, column, and the position of them.
+use Rattle.rules.specs.Rules.{give}
+use Rattle.rules.specs.Operands.{position}
+use Rattle.rules.proofs.Laws.{bind, via}
+use borrow.Author.Needs.{needs}
+use Rattle.operand.proofs.screen.position.Statement.{statement}
+use Rattle.operand.proofs.screen.position.Tie as tie
+
+peek-pad-requires : tie.Need-peek-pad-requires
+peek-pad-requires c κs = search needs
+
+peek-pad-requires-2 : tie.Need-peek-pad-requires-2
+peek-pad-requires-2 c κs = search needs
+
+position-of-requires : tie.Need-position-of-requires
+position-of-requires c κs = search needs
+
+give-word-requires : tie.Need-give-word-requires
+give-word-requires c κs = search needs
+
+returns : tie.Need-returns
+unfolding position
+returns c =
+    λ i v g j.
+    bind _ _ _ _ _ _ _ (c .before .before .before .peek-pad .ensures i v g j) (bind _ _ _ _ _ _ _ (c .before .before .peek-pad2 .ensures i v g j)
+    (via _ _ _ give _ _ (c .before .position-of .ensures) (c .give-word .ensures .1 i _ v g j)))
+
+pub position-spec : {M : Type 1} → statement M
+position-spec =
+    tie.close
+    (tie.spec
+    peek-pad-requires
+    peek-pad-requires-2
+    position-of-requires
+    give-word-requires
+    returns)

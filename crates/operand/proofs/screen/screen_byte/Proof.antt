@@ -1,0 +1,36 @@
+-- The position, the need, and the byte there.
+use mathlib.Core.Path.{refl}
+use Rattle.rules.specs.Answers.{offScreen}
+use Rattle.rules.specs.Rules.{need}
+use Rattle.rules.specs.Operands.{screenByte}
+use Rattle.rules.proofs.Laws.{seq, bind, via}
+use borrow.Author.Needs.{needs}
+use Rattle.operand.proofs.screen.screen_byte.Statement.{statement}
+use Rattle.operand.proofs.screen.screen_byte.Tie as tie
+
+position-requires : tie.Need-position-requires
+position-requires c κs = search needs
+
+on-screen-requires : tie.Need-on-screen-requires
+on-screen-requires c κs = search needs
+
+need-requires : tie.Need-need-requires
+need-requires c κs = search needs
+
+cast-at : tie.Need-cast-at
+cast-at c = search needs
+
+peek-vdp-requires : tie.Need-peek-vdp-requires
+peek-vdp-requires c κs = search needs
+
+returns : tie.Need-returns
+unfolding screenByte
+returns c =
+    λ i g j.
+    bind _ _ _ _ _ _ _ (c .before .before .before .before .position .ensures i _ g j)
+    (seq _ _ _ _ _ _ (via _ _ _ (λ b. need b offScreen) _ _ (c .before .before .before .on-screen .ensures) (c .before .before .need .ensures offScreen refl i _ _ g j)) (c .peek-vdp .ensures i _ g j))
+
+pub screen-byte-spec : {M : Type 1} → statement M
+screen-byte-spec =
+    tie.close
+    (tie.spec position-requires on-screen-requires need-requires cast-at peek-vdp-requires returns)

@@ -1,0 +1,41 @@
+-- By the place: its memory is read.
+use borrow.Author.Needs.{needs}
+use Rattle.operand.proofs.values.byte_at.Statement.{statement}
+use Rattle.operand.proofs.values.byte_at.Tie as tie
+
+enum-known-place : tie.Need-enum-known-place
+enum-known-place c = search needs
+
+cast-at : tie.Need-cast-at
+cast-at c = search needs
+
+peek-pad-requires : tie.Need-peek-pad-requires
+peek-pad-requires c κs = search needs
+
+enum-known-place-2 : tie.Need-enum-known-place-2
+enum-known-place-2 c = search needs
+
+cast-at-2 : tie.Need-cast-at-2
+cast-at-2 c = search needs
+
+peek-vdp-requires : tie.Need-peek-vdp-requires
+peek-vdp-requires c κs = search needs
+
+returns : tie.Need-returns
+returns c = λ i g j. rw (c .before .before .place .given .1) (c .peek-pad .ensures i _ g j)
+
+returns-2 : tie.Need-returns-2
+returns-2 c = λ i g j. rw (c .before .before .place2 .given .1) (c .peek-vdp .ensures i _ g j)
+
+pub byte-at-spec : {M : Type 1} → statement M
+byte-at-spec =
+    tie.close
+    (tie.spec
+    enum-known-place
+    cast-at
+    peek-pad-requires
+    enum-known-place-2
+    cast-at-2
+    peek-vdp-requires
+    returns
+    returns-2)

@@ -1,0 +1,41 @@
+-- By the place of the last byte.
+use mathlib.Core.Path.{_∙_, sym}
+use Rattle.rules.specs.Operands.{echo}
+use Rattle.rules.proofs.Laws.{idle}
+use borrow.Author.Needs.{needs}
+use Rattle.operand.proofs.values.echo.Statement.{statement}
+use Rattle.operand.proofs.values.echo.Tie as tie
+
+ends-in-buffer-requires : tie.Need-ends-in-buffer-requires
+ends-in-buffer-requires c κs = search needs
+
+to-screen-requires : tie.Need-to-screen-requires
+to-screen-requires c κs = search needs
+
+same-length : tie.Need-same-length
+same-length c = search needs
+
+same-length-2 : tie.Need-same-length-2
+same-length-2 c = search needs
+
+returns : tie.Need-returns
+unfolding echo
+returns c =
+    let at-if1 = c .before .before .before .before .before .before .before in
+    let at-ends-in-buffer = at-if1 .before in
+    λ i g. rw (sym (at-ends-in-buffer .ends-in-buffer .ensures) ∙ at-if1 .if1 .taken) (c .before .before .before .before .to-screen .ensures i g)
+
+returns-2 : tie.Need-returns-2
+unfolding echo
+returns-2 c = λ i g. rw (sym (c .before .ends-in-buffer .ensures) ∙ c .if1 .left) (idle i _)
+
+pub echo-spec : {M : Type 1} → statement M
+echo-spec =
+    tie.close
+    (tie.spec
+    ends-in-buffer-requires
+    to-screen-requires
+    same-length
+    same-length-2
+    returns
+    returns-2)

@@ -1,0 +1,54 @@
+-- The operand, then its value.
+use Rattle.rules.specs.Operands.{operandOf, value, operandValue}
+use Rattle.rules.proofs.Laws.{via}
+use Rattle.operand.proofs.Reach.{with-place}
+use borrow.Author.Needs.{needs}
+use Rattle.operand.proofs.values.operand_value.Statement.{statement}
+use Rattle.operand.proofs.values.operand_value.Tie as tie
+
+byte-count-requires : tie.Need-byte-count-requires
+byte-count-requires c κs = search needs
+
+operand-requires : tie.Need-operand-requires
+operand-requires c κs = search needs
+
+now-of-requires : tie.Need-now-of-requires
+now-of-requires c κs = search needs
+
+place-of-requires : tie.Need-place-of-requires
+place-of-requires c κs = search needs
+
+value-requires : tie.Need-value-requires
+value-requires c κs = search needs
+
+same-length : tie.Need-same-length
+same-length c = search needs
+
+same-length-2 : tie.Need-same-length-2
+same-length-2 c = search needs
+
+returns : tie.Need-returns
+unfolding operandValue
+returns c =
+    let at-place-of = c .before .before .before .before .before in
+    let at-now-of = at-place-of .before .before .before in
+    let at-operand = at-now-of .before .before .before .before .before in
+    let at-byte-count = at-operand .before in
+    let start = at-byte-count .before .before .before .before .before .before .before in (
+      c .before .before .before .before .value .ensures .0,
+      λ g. with-place _ _ _ _ _ _ _ _ _ _ _ (value (start .args .wide)) (via _ _ _ operandOf _ _ (at-byte-count .byte-count .ensures .0) (at-operand .operand .ensures .1 _ g))
+          (at-now-of .now-of .ensures) (at-place-of .place-of .ensures) (c .before .before .before .before .value .ensures .1 _ g),
+    )
+
+pub operand-value-spec : {M : Type 1} → statement M
+operand-value-spec =
+    tie.close
+    (tie.spec
+    byte-count-requires
+    operand-requires
+    now-of-requires
+    place-of-requires
+    value-requires
+    same-length
+    same-length-2
+    returns)

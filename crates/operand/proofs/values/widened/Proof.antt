@@ -1,0 +1,23 @@
+-- The byte given once more, as a word.
+use mathlib.Core.Path.{refl, _∙_, sym}
+use native.Mathlib.Omega.{arith}
+use Rattle.rules.proofs.Laws.{gives}
+use mathlib.Core.Path.{refl, _∙_, sym}
+use borrow.Author.Needs.{needs}
+use Rattle.operand.proofs.values.widened.Statement.{statement}
+use Rattle.operand.proofs.values.widened.Tie as tie
+
+cast-w : tie.Need-cast-w
+cast-w c = search needs
+
+give-word-requires : tie.Need-give-word-requires
+give-word-requires c κs = search needs
+
+returns : tie.Need-returns
+returns c = (
+  omega (arith, c .give-word .ensures .0, c .before .struct-known .given),
+  λ p v g j. c .give-word .ensures .1 p p v g j ∙ sym (gives p _ _ _ refl),
+)
+
+pub widened-spec : {M : Type 1} → statement M
+widened-spec = tie.close (tie.spec cast-w give-word-requires returns)

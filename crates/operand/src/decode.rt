@@ -1,0 +1,229 @@
+// Decoding: from an operand's bytes to its cell.
+use crate::places;
+use crate::places::Located;
+use crate::places::Operand;
+use crate::places::Place;
+use crate::places::Refusal;
+use machine::grom;
+use machine::pad as cpu;
+use machine::state;
+use machine::state::Now;
+ghost use mathlib.Core.Path.{_≡_};
+ghost use mathlib.Core.List.{List};
+ghost use Prim.Native.Nat.{ℕ, _+_, _-_, _≤_};
+ghost use lib.ListN.{length};
+ghost use Rattle.rules.specs.Rules.{after, valued};
+ghost use Rattle.rules.specs.Operands;
+ghost use Rattle.rules.specs.Operands.{onDataStack, operandOf};
+ghost use Rattle.machine.specs.Said.{out};
+ghost use Rattle.operand.specs.Places.{cellOf, placeOf, located};
+
+// ---- the offset
+
+fn short_offset(image: &[u8], m: Now, aaaa: u8) -> Now
+    ensures { λ r. ⌜ ((p v g j : List ℕ) → valued (r .word) (out p v g j r) ≡ after (now (image .entry)) (out p v g j m) (Operands.shortOffset aaaa)) ⌝ }
+{
+    let low = grom::next_byte(image, m);
+    state::give_word(low, number::words::word_of(aaaa, low.byte))
+}
+
+fn offset(image: &[u8], m: Now, aaaa: u8) -> Now
+    ensures { λ r. ⌜ ((p v g j : List ℕ) → valued (r .word) (out p v g j r) ≡ after (now (image .entry)) (out p v g j m) (Operands.offset aaaa)) ⌝ }
+{
+    if aaaa == 15 {
+        return grom::next_word(image, m);
+    }
+    short_offset(image, m, aaaa)
+}
+
+fn add_index(image: &[u8], pad: &[u8], m: Now, a: u16) -> Now
+    requires { ⌜ length (now pad) ≡ 256 ⌝ }
+    ensures { λ r. ⌜ ((v g j : List ℕ) → valued (r .word) (out (now (pad .entry)) v g j r) ≡ after (now (image .entry)) (out (now (pad .entry)) v g j m) (Operands.addIndex a)) ⌝ }
+{
+    let x = grom::next_byte(image, m);
+    let at = x.byte as usize;
+    let w = cpu::peek_pad_word(pad, x, at);
+    state::give_word(w, number::addresses::plus(a, w.word))
+}
+
+// With X, a pad word is added, before any indirection.
+pub fn indexed(image: &[u8], pad: &[u8], m: Now, x: bool, a: u16) -> Now
+    requires { ⌜ length (now pad) ≡ 256 ⌝ }
+    ensures { λ r. ⌜ ((v g j : List ℕ) → valued (r .word) (out (now (pad .entry)) v g j r) ≡ after (now (image .entry)) (out (now (pad .entry)) v g j m) (Operands.indexed x a)) ⌝ }
+{
+    if x {
+        return add_index(image, pad, m, a);
+    }
+    state::give_word(m, a)
+}
+
+// ---- the cell that an offset names
+
+// A place, beside the state that goes on.
+pub struct Spot {
+    pub now: Now,
+    pub place: Place,
+}
+
+fn through_word(pad: &[u8], m: Now, a: u16) -> Spot
+    requires { ⌜ length (now pad) ≡ 256 ⌝ }
+    ensures { λ r. ⌜ ((i v g j : List ℕ) → valued (cellOf (r .place)) (out (now (pad .entry)) v g j (r .now)) ≡ after i (out (now (pad .entry)) v g j m) (Operands.throughWord a)) ⌝ }
+{
+    let at = a as usize;
+    let w = cpu::peek_pad_word(pad, m, at);
+    Spot {
+        now: w,
+        place: Place::Vdp(w.word),
+    }
+}
+
+fn through_byte(pad: &[u8], m: Now, a: u16) -> Spot
+    requires { ⌜ length (now pad) ≡ 256 ⌝ }
+    ensures { λ r. ⌜ ((i v g j : List ℕ) → valued (cellOf (r .place)) (out (now (pad .entry)) v g j (r .now)) ≡ after i (out (now (pad .entry)) v g j m) (Operands.throughByte a)) ⌝ }
+{
+    let at = a as usize;
+    let b = cpu::peek_pad(pad, m, at);
+    let to = b.byte as u16;
+    Spot {
+        now: b,
+        place: Place::Cpu(to),
+    }
+}
+
+// The data stack's area.
+pub fn on_data_stack(p: u16) -> bool
+    ensures { λ r. ⌜ r ≡ onDataStack p ⌝ }
+{
+    if p < 0xA0 {
+        return false;
+    }
+    p <= 0xBF
+}
+
+// One less; 0 stays.
+fn down(b: u8) -> u8
+    ensures { λ r. ⌜ r ≡ b - 1 ⌝ }
+{
+    if b == 0 {
+        return 0;
+    }
+    b - 1
+}
+
+// A pop off the data stack: the pointer's test, its store, and the cell.
+fn pop_cell(pad: &mut [u8], journal: &mut [u32], m: Now) -> Spot
+    requires { ⌜ length (now pad) ≡ 256 ⌝ }
+    ensures { λ r. ⌜ ((i v g : List ℕ) → valued (cellOf (r .place)) (out (now (pad .exit)) v g (now (journal .exit)) (r .now)) ≡ after i (out (now (pad .entry)) v g (now (journal .entry)) m) Operands.popCell) ⌝ }
+{
+    let p = cpu::peek_pad(pad, m, 0x72);
+    let top = p.byte as u16;
+    let tested = state::need(p, on_data_stack(top), 7);
+    let below = down(p.byte);
+    let lowered = cpu::poke_pad(pad, journal, tested, 0x72, below);
+    Spot {
+        now: lowered,
+        place: Place::Cpu(top),
+    }
+}
+
+fn through_pad(pad: &mut [u8], journal: &mut [u32], m: Now, a: u16) -> Spot
+    requires { ⌜ length (now pad) ≡ 256 ⌝ }
+    ensures { λ r. ⌜ ((i v g : List ℕ) → valued (cellOf (r .place)) (out (now (pad .exit)) v g (now (journal .exit)) (r .now)) ≡ after i (out (now (pad .entry)) v g (now (journal .entry)) m) (Operands.throughPad a)) ⌝ }
+{
+    if a == 0x7C {
+        return pop_cell(pad, journal, m);
+    }
+    through_byte(pad, m, a)
+}
+
+// By the bits V and I.
+fn named(pad: &mut [u8], journal: &mut [u32], m: Now, v: bool, i: bool, a: u16) -> Spot
+    requires { ⌜ length (now pad) ≡ 256 ⌝ }
+    ensures { λ r. ⌜ ((im vr g : List ℕ) → valued (cellOf (r .place)) (out (now (pad .exit)) vr g (now (journal .exit)) (r .now)) ≡ after im (out (now (pad .entry)) vr g (now (journal .entry)) m) (Operands.named v i a)) ⌝ }
+{
+    if v {
+        if i {
+            return through_word(pad, m, a);
+        }
+        return Spot {
+            now: m,
+            place: Place::Vdp(a),
+        };
+    }
+    if i {
+        return through_pad(pad, journal, m, a);
+    }
+    Spot {
+        now: m,
+        place: Place::Cpu(a),
+    }
+}
+
+// An operand of more than one byte, by its first: 1XVIaaaa.
+fn far_cell(image: &[u8], pad: &mut [u8], journal: &mut [u32], m: Now, b: u8) -> Spot
+    requires { ⌜ length (now pad) ≡ 256 ⌝ }
+    ensures { λ r. ⌜ ((v g : List ℕ) → valued (cellOf (r .place)) (out (now (pad .exit)) v g (now (journal .exit)) (r .now)) ≡ after (now (image .entry)) (out (now (pad .entry)) v g (now (journal .entry)) m) (Operands.farCell b)) ⌝ }
+{
+    let a = offset(image, m, number::bits::nibble(b));
+    let e = indexed(image, pad, a, number::bits::bit(6, b), a.word);
+    named(
+        pad,
+        journal,
+        e,
+        number::bits::bit(5, b),
+        number::bits::bit(4, b),
+        e.word,
+    )
+}
+
+fn any_cell(image: &[u8], pad: &mut [u8], journal: &mut [u32], m: Now, b: u8) -> Spot
+    requires { ⌜ length (now pad) ≡ 256 ⌝ }
+    ensures { λ r. ⌜ ((v g : List ℕ) → valued (cellOf (r .place)) (out (now (pad .exit)) v g (now (journal .exit)) (r .now)) ≡ after (now (image .entry)) (out (now (pad .entry)) v g (now (journal .entry)) m) (Operands.anyCell b)) ⌝ }
+{
+    if b < 0x80 {
+        let near = b as u16;
+        return Spot {
+            now: m,
+            place: Place::Cpu(near),
+        };
+    }
+    far_cell(image, pad, journal, m, b)
+}
+
+// ---- the operand
+
+// A place that n bytes from there on are in range of, or a refusal.
+fn answered(m: Now, place: Place, n: u32) -> Operand
+    requires { ⌜ n ≤ 2 ⌝ }
+    ensures { λ r. ⌜ (cellOf (placeOf r) .at + n ≤ 16384) × ((i p v g j : List ℕ) → located p v g j r ≡ after i (out p v g j m) (Operands.reached n (cellOf place))) ⌝ }
+{
+    if m.answer != 0 {
+        return Operand::Refused(Refusal {
+            answer: m.answer,
+            used: m.used,
+        });
+    }
+    if places::in_reach(n, place) {
+        return Operand::At(Located {
+            place,
+            pc: m.pc,
+            used: m.used,
+        });
+    }
+    Operand::Refused(Refusal {
+        answer: places::outside(place),
+        used: m.used,
+    })
+}
+
+// An operand of which n bytes must be in range: 1 for a byte or a place, 2 for a word.
+pub fn operand(image: &[u8], pad: &mut [u8], journal: &mut [u32], m: Now, n: u32) -> Operand
+    requires { ⌜ (length (now pad) ≡ 256) × (n ≤ 2) ⌝ }
+    ensures { λ r. ⌜ (cellOf (placeOf r) .at + n ≤ 16384) × ((v g : List ℕ) → located (now (pad .exit)) v g (now (journal .exit)) r ≡ after (now (image .entry)) (out (now (pad .entry)) v g (now (journal .entry)) m) (operandOf n)) ⌝ }
+{
+    let first = grom::next_byte(image, m);
+    let cell = any_cell(image, pad, journal, first, first.byte);
+    let now = cell.now;
+    let place = cell.place;
+    answered(now, place, n)
+}

@@ -1,0 +1,276 @@
+// What is read at a place, and how a result is stored there: a byte or a word.
+use crate::decode;
+use crate::places;
+use crate::places::Place;
+use crate::screen;
+use machine::grom;
+use machine::pad as cpu;
+use machine::state;
+use machine::state::Now;
+use machine::vdp;
+ghost use mathlib.Core.Path.{_≡_};
+ghost use mathlib.Core.List.{List};
+ghost use Prim.Native.Nat.{ℕ, _-_, _≤_, _<_};
+ghost use lib.ListN.{length};
+ghost use Rattle.rules.specs.Rules.{after, valued, peek, peekWord, poke};
+ghost use Rattle.rules.specs.Operands;
+ghost use Rattle.rules.specs.Operands.{byteCount, past, isBuffer, pokeWord};
+ghost use Rattle.rules.specs.Arithmetic.{half, span};
+ghost use Rattle.machine.specs.Said.{out};
+ghost use Rattle.operand.specs.Places.{cellOf};
+
+// How many bytes a width has.
+pub fn byte_count(wide: bool) -> u32
+    ensures { λ r. ⌜ (r ≡ byteCount wide) × (1 ≤ r) × (r ≤ 2) ⌝ }
+{
+    if wide {
+        return 2;
+    }
+    1
+}
+
+// A byte that was read, as the value of a byte's width.
+fn widened(m: Now) -> Now
+    ensures { λ r. ⌜ (r .word < 256) × ((p v g j : List ℕ) → valued (r .word) (out p v g j r) ≡ valued (m .byte) (out p v g j m)) ⌝ }
+{
+    let w = m.byte as u16;
+    state::give_word(m, w)
+}
+
+// ---- reading
+
+fn byte_at(pad: &[u8], vram: &[u8], m: Now, place: Place) -> Now
+    requires { ⌜ (length (now pad) ≡ 256) × (length (now vram) ≡ 16384) ⌝ }
+    ensures { λ r. ⌜ ((i g j : List ℕ) → valued (r .byte) (out (now (pad .entry)) (now (vram .entry)) g j r) ≡ after i (out (now (pad .entry)) (now (vram .entry)) g j m) (peek (cellOf place .kind) (cellOf place .at))) ⌝ }
+{
+    match place {
+        Place::Cpu(a) => {
+            let at = a as usize;
+            cpu::peek_pad(pad, m, at)
+        }
+        Place::Vdp(a) => {
+            let at = a as usize;
+            vdp::peek_vdp(vram, m, at)
+        }
+    }
+}
+
+fn word_at(pad: &[u8], vram: &[u8], m: Now, place: Place) -> Now
+    requires { ⌜ (length (now pad) ≡ 256) × (length (now vram) ≡ 16384) ⌝ }
+    ensures { λ r. ⌜ ((i g j : List ℕ) → valued (r .word) (out (now (pad .entry)) (now (vram .entry)) g j r) ≡ after i (out (now (pad .entry)) (now (vram .entry)) g j m) (peekWord (cellOf place .kind) (cellOf place .at))) ⌝ }
+{
+    match place {
+        Place::Cpu(a) => {
+            let at = a as usize;
+            cpu::peek_pad_word(pad, m, at)
+        }
+        Place::Vdp(a) => {
+            let at = a as usize;
+            vdp::peek_vdp_word(vram, m, at)
+        }
+    }
+}
+
+// What stands at a place, as it stands.
+pub fn standing(pad: &[u8], vram: &[u8], m: Now, wide: bool, place: Place) -> Now
+    requires { ⌜ (length (now pad) ≡ 256) × (length (now vram) ≡ 16384) ⌝ }
+    ensures { λ r. ⌜ (r .word < span (half wide)) × ((i g j : List ℕ) → valued (r .word) (out (now (pad .entry)) (now (vram .entry)) g j r) ≡ after i (out (now (pad .entry)) (now (vram .entry)) g j m) (Operands.standing wide (cellOf place))) ⌝ }
+{
+    if wide {
+        return word_at(pad, vram, m, place);
+    }
+    let b = byte_at(pad, vram, m, place);
+    widened(b)
+}
+
+// A read whose first byte is the character buffer first stores the screen byte there.
+fn refresh(pad: &mut [u8], vram: &[u8], journal: &mut [u32], m: Now, place: Place) -> Now
+    requires { ⌜ (length (now pad) ≡ 256) × (length (now vram) ≡ 16384) ⌝ }
+    ensures { λ r. ⌜ ((i g : List ℕ) → out (now (pad .exit)) (now (vram .entry)) g (now (journal .exit)) r ≡ after i (out (now (pad .entry)) (now (vram .entry)) g (now (journal .entry)) m) (Operands.refresh (cellOf place))) ⌝ }
+{
+    if places::is_buffer(place) {
+        return screen::load_buffer(pad, vram, journal, m);
+    }
+    m
+}
+
+// An operand's value.
+pub fn value(
+    pad: &mut [u8],
+    vram: &[u8],
+    journal: &mut [u32],
+    m: Now,
+    wide: bool,
+    place: Place,
+) -> Now
+    requires { ⌜ (length (now pad) ≡ 256) × (length (now vram) ≡ 16384) ⌝ }
+    ensures { λ r. ⌜ (r .word < span (half wide)) × ((i g : List ℕ) → valued (r .word) (out (now (pad .exit)) (now (vram .entry)) g (now (journal .exit)) r) ≡ after i (out (now (pad .entry)) (now (vram .entry)) g (now (journal .entry)) m) (Operands.value wide (cellOf place))) ⌝ }
+{
+    let fresh = refresh(pad, vram, journal, m, place);
+    standing(pad, vram, fresh, wide, place)
+}
+
+// ---- storing
+
+fn store_byte(
+    pad: &mut [u8],
+    vram: &mut [u8],
+    journal: &mut [u32],
+    m: Now,
+    place: Place,
+    b: u8,
+) -> Now
+    requires { ⌜ (length (now pad) ≡ 256) × (length (now vram) ≡ 16384) ⌝ }
+    ensures { λ r. ⌜ ((i g : List ℕ) → out (now (pad .exit)) (now (vram .exit)) g (now (journal .exit)) r ≡ after i (out (now (pad .entry)) (now (vram .entry)) g (now (journal .entry)) m) (poke (cellOf place .kind) (cellOf place .at) b)) ⌝ }
+{
+    match place {
+        Place::Cpu(a) => {
+            let at = a as usize;
+            cpu::poke_pad(pad, journal, m, at, b)
+        }
+        Place::Vdp(a) => {
+            let at = a as usize;
+            vdp::poke_vdp(vram, journal, m, at, b)
+        }
+    }
+}
+
+fn store_word(
+    pad: &mut [u8],
+    vram: &mut [u8],
+    journal: &mut [u32],
+    m: Now,
+    place: Place,
+    w: u16,
+) -> Now
+    requires { ⌜ (length (now pad) ≡ 256) × (length (now vram) ≡ 16384) ⌝ }
+    ensures { λ r. ⌜ ((i g : List ℕ) → out (now (pad .exit)) (now (vram .exit)) g (now (journal .exit)) r ≡ after i (out (now (pad .entry)) (now (vram .entry)) g (now (journal .entry)) m) (pokeWord (cellOf place .kind) (cellOf place .at) w)) ⌝ }
+{
+    match place {
+        Place::Cpu(a) => {
+            let at = a as usize;
+            cpu::poke_pad_word(pad, journal, m, at, w)
+        }
+        Place::Vdp(a) => {
+            let at = a as usize;
+            vdp::poke_vdp_word(vram, journal, m, at, w)
+        }
+    }
+}
+
+fn store_value(
+    pad: &mut [u8],
+    vram: &mut [u8],
+    journal: &mut [u32],
+    m: Now,
+    wide: bool,
+    place: Place,
+    v: u16,
+) -> Now
+    requires { ⌜ (length (now pad) ≡ 256) × (length (now vram) ≡ 16384) ⌝ }
+    ensures { λ r. ⌜ ((i g : List ℕ) → out (now (pad .exit)) (now (vram .exit)) g (now (journal .exit)) r ≡ after i (out (now (pad .entry)) (now (vram .entry)) g (now (journal .entry)) m) (Operands.storeValue wide (cellOf place) v)) ⌝ }
+{
+    if wide {
+        return store_word(pad, vram, journal, m, place, v);
+    }
+    let b = number::words::low_of(v);
+    store_byte(pad, vram, journal, m, place, b)
+}
+
+// The last byte of a result is the character buffer.
+fn ends_in_buffer(wide: bool, place: Place) -> bool
+    ensures { λ r. ⌜ r ≡ isBuffer (past (byteCount wide - 1) (cellOf place)) ⌝ }
+{
+    match place {
+        Place::Cpu(a) => {
+            if wide {
+                return a == 0x7C;
+            }
+            a == 0x7D
+        }
+        Place::Vdp(_) => false,
+    }
+}
+
+fn echo(
+    pad: &[u8],
+    vram: &mut [u8],
+    journal: &mut [u32],
+    m: Now,
+    wide: bool,
+    place: Place,
+    b: u8,
+) -> Now
+    requires { ⌜ (length (now pad) ≡ 256) × (length (now vram) ≡ 16384) ⌝ }
+    ensures { λ r. ⌜ ((i g : List ℕ) → out (now (pad .entry)) (now (vram .exit)) g (now (journal .exit)) r ≡ after i (out (now (pad .entry)) (now (vram .entry)) g (now (journal .entry)) m) (Operands.echo (past (byteCount wide - 1) (cellOf place)) b)) ⌝ }
+{
+    if ends_in_buffer(wide, place) {
+        return screen::to_screen(pad, vram, journal, m, b);
+    }
+    m
+}
+
+// A result; if its last byte goes to the character buffer, that byte goes to the screen too.
+pub fn result(
+    pad: &mut [u8],
+    vram: &mut [u8],
+    journal: &mut [u32],
+    m: Now,
+    wide: bool,
+    place: Place,
+    v: u16,
+) -> Now
+    requires { ⌜ (length (now pad) ≡ 256) × (length (now vram) ≡ 16384) ⌝ }
+    ensures { λ r. ⌜ ((i g : List ℕ) → out (now (pad .exit)) (now (vram .exit)) g (now (journal .exit)) r ≡ after i (out (now (pad .entry)) (now (vram .entry)) g (now (journal .entry)) m) (Operands.result wide (cellOf place) v)) ⌝ }
+{
+    let stored = store_value(pad, vram, journal, m, wide, place, v);
+    let low = number::words::low_of(v);
+    echo(pad, vram, journal, stored, wide, place, low)
+}
+
+// ---- sources
+
+pub fn operand_value(
+    image: &[u8],
+    pad: &mut [u8],
+    vram: &[u8],
+    journal: &mut [u32],
+    m: Now,
+    wide: bool,
+) -> Now
+    requires { ⌜ (length (now pad) ≡ 256) × (length (now vram) ≡ 16384) ⌝ }
+    ensures { λ r. ⌜ (r .word < span (half wide)) × ((g : List ℕ) → valued (r .word) (out (now (pad .exit)) (now (vram .entry)) g (now (journal .exit)) r) ≡ after (now (image .entry)) (out (now (pad .entry)) (now (vram .entry)) g (now (journal .entry)) m) (Operands.operandValue wide)) ⌝ }
+{
+    let o = decode::operand(image, pad, journal, m, byte_count(wide));
+    let at = places::now_of(o);
+    value(pad, vram, journal, at, wide, places::place_of(o))
+}
+
+// The bytes at pc.
+pub fn immediate(image: &[u8], m: Now, wide: bool) -> Now
+    ensures { λ r. ⌜ (r .word < span (half wide)) × ((p v g j : List ℕ) → valued (r .word) (out p v g j r) ≡ after (now (image .entry)) (out p v g j m) (Operands.immediate wide)) ⌝ }
+{
+    if wide {
+        return grom::next_word(image, m);
+    }
+    let b = grom::next_byte(image, m);
+    widened(b)
+}
+
+pub fn source(
+    image: &[u8],
+    pad: &mut [u8],
+    vram: &[u8],
+    journal: &mut [u32],
+    m: Now,
+    imm: bool,
+    wide: bool,
+) -> Now
+    requires { ⌜ (length (now pad) ≡ 256) × (length (now vram) ≡ 16384) ⌝ }
+    ensures { λ r. ⌜ (r .word < span (half wide)) × ((g : List ℕ) → valued (r .word) (out (now (pad .exit)) (now (vram .entry)) g (now (journal .exit)) r) ≡ after (now (image .entry)) (out (now (pad .entry)) (now (vram .entry)) g (now (journal .entry)) m) (Operands.source imm wide)) ⌝ }
+{
+    if imm {
+        return immediate(image, m, wide);
+    }
+    operand_value(image, pad, vram, journal, m, wide)
+}
