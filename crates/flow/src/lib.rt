@@ -1,5 +1,6 @@
-// Tests, branches, the subroutine stack, RAND, BACK and ALL: each a row of the machine's calls, as its rule is a row of actions.
+// Tests, branches, both stacks, FETCH, CASE, RAND, BACK and ALL: each a row of calls, as its rule is a row of actions.
 pub mod branches;
+pub mod operands;
 pub mod random;
 pub mod screen;
 pub mod stacks;

@@ -10,7 +10,7 @@ ghost use Rattle.rules.specs.Instructions;
 ghost use Rattle.rules.specs.Instructions.{onSubStack, pushPc, popPc};
 ghost use Rattle.machine.specs.Said.{out};
 
-const POINTER: usize = 0x73;
+pub const POINTER: usize = 0x73;
 
 const OFF_STACK: u8 = 7;
 

@@ -1,0 +1,44 @@
+-- The operand, and where its cell stands.
+use Rattle.rules.specs.Instructions.{cellSource}
+use Rattle.rules.proofs.Laws.{gives}
+use Rattle.operand.proofs.Reach.{with-place}
+use borrow.Author.Needs.{needs}
+use Rattle.block.proofs.ends.cell_source.Statement.{statement}
+use Rattle.block.proofs.ends.cell_source.Tie as tie
+
+operand-requires : tie.Need-operand-requires
+operand-requires c κs = search needs
+
+now-of-requires : tie.Need-now-of-requires
+now-of-requires c κs = search needs
+
+place-of-requires : tie.Need-place-of-requires
+place-of-requires c κs = search needs
+
+origin-at-requires : tie.Need-origin-at-requires
+origin-at-requires c κs = search needs
+
+same-length : tie.Need-same-length
+same-length c = search needs
+
+same-length-2 : tie.Need-same-length-2
+same-length-2 c = search needs
+
+returns : tie.Need-returns
+unfolding cellSource
+returns c =
+    let at-operand = c .before .before .before .before .before .before .before in
+    λ v g.
+    with-place _ _ _ _ _ _ _ _ _ _ _ _ (at-operand .operand .ensures .1 v g) (c .before .before .now-of .ensures) (c .before .place-of .ensures) (gives _ _ _ _ (c .origin-at .ensures))
+
+pub cell-source-spec : {M : Type 1} → statement M
+cell-source-spec =
+    tie.close
+    (tie.spec
+    operand-requires
+    now-of-requires
+    place-of-requires
+    origin-at-requires
+    same-length
+    same-length-2
+    returns)

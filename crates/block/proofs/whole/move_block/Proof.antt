@@ -1,0 +1,132 @@
+-- Length, destination, source; pc pushed; the bytes; pc popped. Each bit of the opcode is the rule's.
+use mathlib.Core.Path.{_∙_}
+use mathlib.Core.Bool.{Bool, true}
+use Prim.Native.Nat.{ℕ}
+use Rattle.rules.specs.Operands.{source}
+use Rattle.rules.specs.Instructions.{moveLength, moveTarget, moveSource, moveBytes, moveRule}
+use Rattle.rules.proofs.Laws.{seq, bind, via, via₂}
+use Rattle.block.specs.Ends.{targetOf, originOf}
+use borrow.Author.Needs.{needs}
+use Rattle.block.proofs.whole.move_block.Statement.{statement}
+use Rattle.block.proofs.whole.move_block.Tie as tie
+
+bit-requires : tie.Need-bit-requires
+bit-requires c κs = search needs
+
+bit-requires-2 : tie.Need-bit-requires-2
+bit-requires-2 c κs = search needs
+
+bit-requires-3 : tie.Need-bit-requires-3
+bit-requires-3 c κs = search needs
+
+bit-requires-4 : tie.Need-bit-requires-4
+bit-requires-4 c κs = search needs
+
+source-requires : tie.Need-source-requires
+source-requires c κs = search needs
+
+move-target-requires : tie.Need-move-target-requires
+move-target-requires c κs = search needs
+
+move-source-requires : tie.Need-move-source-requires
+move-source-requires c κs =
+    let at-move-target = c .before .before .before .before .before .before in
+    let at-source = at-move-target .before .before .before .before .before .before .before in
+    let start = at-source .before .before .before .before .before .before .before .before .before .before .before .before .before in
+    at-move-target .move-target .kept .1 .0 ∙ at-source .source .kept .1 .0 ∙ start .pre .0
+
+push-pc-requires : tie.Need-push-pc-requires
+push-pc-requires c κs =
+    let at-move-source = c .before .before .before .before .before .before in
+    let at-move-target = at-move-source .before .before .before .before .before .before .before in
+    let at-source = at-move-target .before .before .before .before .before .before .before in
+    let start = at-source .before .before .before .before .before .before .before .before .before .before .before .before .before in
+    at-move-source .move-source .kept .1 .0 ∙ at-move-target .move-target .kept .1 .0 ∙ at-source .source .kept .1 .0 ∙ start .pre .0
+
+move-count-requires : tie.Need-move-count-requires
+move-count-requires c κs = search needs
+
+move-bytes-requires : tie.Need-move-bytes-requires
+move-bytes-requires c κs =
+    let at-push-pc = c .before .before .before .before .before .before .before .before .before in
+    let at-move-source = at-push-pc .before .before .before .before .before .before .before in
+    let at-move-target = at-move-source .before .before .before .before .before .before .before in
+    let at-source = at-move-target .before .before .before .before .before .before .before in
+    let start = at-source .before .before .before .before .before .before .before .before .before .before .before .before .before in
+    (at-push-pc .push-pc .kept .0 ∙ at-move-source .move-source .kept .1 .0 ∙ at-move-target .move-target .kept .1 .0 ∙ at-source .source .kept .1 .0 ∙ start .pre .0, start .pre .1, start .pre .2)
+
+pop-pc-requires : tie.Need-pop-pc-requires
+pop-pc-requires c κs =
+    let at-move-bytes = c .before .before .before .before .before .before .before .before .before .before in
+    let at-push-pc = at-move-bytes .before .before .before .before .before .before .before .before .before .before in
+    let at-move-source = at-push-pc .before .before .before .before .before .before .before in
+    let at-move-target = at-move-source .before .before .before .before .before .before .before in
+    let at-source = at-move-target .before .before .before .before .before .before .before in
+    let start = at-source .before .before .before .before .before .before .before .before .before .before .before .before .before in
+    at-move-bytes .move-bytes .kept .1 .0 ∙ at-push-pc .push-pc .kept .0 ∙ at-move-source .move-source .kept .1 .0 ∙ at-move-target .move-target .kept .1 .0 ∙ at-source .source .kept .1 .0 ∙ start .pre .0
+
+same-length : tie.Need-same-length
+same-length c =
+    let at-move-bytes = c .before .before .before .before .before .before .before .before .before .before .before .before .before .before .before in
+    let at-push-pc = at-move-bytes .before .before .before .before .before .before .before .before .before .before in
+    let at-move-source = at-push-pc .before .before .before .before .before .before .before in
+    let at-move-target = at-move-source .before .before .before .before .before .before .before in
+    let at-source = at-move-target .before .before .before .before .before .before .before in
+    c .before .before .before .before .pop-pc .kept .0 ∙ at-move-bytes .move-bytes .kept .1 .0 ∙ at-push-pc .push-pc .kept .0 ∙ at-move-source .move-source .kept .1 .0 ∙ at-move-target .move-target .kept .1 .0 ∙ at-source .source .kept .1 .0
+
+same-length-2 : tie.Need-same-length-2
+same-length-2 c = search needs
+
+same-length-3 : tie.Need-same-length-3
+same-length-3 c = search needs
+
+same-length-4 : tie.Need-same-length-4
+same-length-4 c =
+    let at-move-bytes = c .before .before .before .before .before .before .before .before .before .before .before .before .before .before .before in
+    let at-push-pc = at-move-bytes .before .before .before .before .before .before .before .before .before .before in
+    let at-move-source = at-push-pc .before .before .before .before .before .before .before in
+    let at-move-target = at-move-source .before .before .before .before .before .before .before in
+    let at-source = at-move-target .before .before .before .before .before .before .before in
+    c .before .before .before .before .pop-pc .kept .1 .0 ∙ at-move-bytes .move-bytes .kept .1 .1 .1 .1 .0 ∙ at-push-pc .push-pc .kept .1 .0 ∙ at-move-source .move-source .kept .1 .1 .0
+    ∙ at-move-target .move-target .kept .1 .1 .0 ∙ at-source .source .kept .1 .1 .1 .0
+
+returns : tie.Need-returns
+unfolding moveRule moveLength
+returns c =
+    let at-move-bytes = c .before .before .before .before .before .before .before .before .before .before .before .before .before .before .before in
+    let at-move-count = at-move-bytes .before .before .before .before .before in
+    let at-push-pc = at-move-count .before .before .before .before .before in
+    let at-move-source = at-push-pc .before .before .before .before .before .before .before in
+    let at-move-target = at-move-source .before .before .before .before .before .before .before in
+    let at-source = at-move-target .before .before .before .before .before .before .before in
+    let at-bit4 = at-source .before .before .before .before in
+    let at-bit3 = at-bit4 .before in
+    let at-bit2 = at-bit3 .before in
+    let at-bit = at-bit2 .before in
+    bind _ _ _ _ _ _ _ (via _ _ _ (λ (b : Bool). source b true) _ _ (at-bit .bit .ensures) (at-source .source .ensures .1 _))
+    (bind _ _ _ _ _ _ _ (via _ _ _ moveTarget _ _ (at-bit4 .bit4 .ensures) (at-move-target .move-target .ensures _ _))
+    (bind _ _ _ _ _ _ _ (via₂ _ _ _ moveSource _ _ _ _ (at-bit3 .bit3 .ensures) (at-bit2 .bit2 .ensures) (at-move-source .move-source .ensures _ _))
+    (seq _ _ _ _ _ _ (at-push-pc .push-pc .ensures _ _ _)
+    (seq _ _ _ _ _ _ (via _ _ _ (λ (n : ℕ). moveBytes n 0 (originOf (at-move-source .move-source .result .origin)) (targetOf (at-move-target .move-target .result .target))) _ _ (at-move-count .move-count .ensures) (at-move-bytes .move-bytes .ensures))
+    (c .before .before .before .before .pop-pc .ensures _ _ _)))))
+
+pub move-block-spec : {M : Type 1} → statement M
+move-block-spec =
+    tie.close
+    (tie.spec
+    bit-requires
+    bit-requires-2
+    bit-requires-3
+    bit-requires-4
+    source-requires
+    move-target-requires
+    move-source-requires
+    push-pc-requires
+    move-count-requires
+    move-bytes-requires
+    pop-pc-requires
+    same-length
+    same-length-2
+    same-length-3
+    same-length-4
+    returns)

@@ -1,0 +1,135 @@
+// Where a MOVE's bytes come from and where they go.
+use machine::state::Now;
+use operand::places::Place;
+ghost use mathlib.Core.Path.{_≡_};
+ghost use mathlib.Core.List.{List};
+ghost use Prim.Native.Nat.{ℕ};
+ghost use lib.ListN.{length};
+ghost use Rattle.rules.specs.Rules.{after, valued};
+ghost use Rattle.rules.specs.Operands.{place};
+ghost use Rattle.rules.specs.Instructions;
+ghost use Rattle.rules.specs.Instructions.{registerCell, moveTarget, gromSource, cellSource, moveSource};
+ghost use Rattle.machine.specs.Said.{out};
+ghost use Rattle.operand.specs.Places.{cellOf};
+ghost use Rattle.block.specs.Ends.{targetOf, originOf};
+
+pub enum Target {
+    Pad(u16),
+    Video(u16),
+    Register(u8),
+}
+
+pub enum Origin {
+    Grom(u16),
+    Cpu(u16),
+    Vdp(u16),
+}
+
+// An end, beside the state that goes on.
+pub struct Aimed {
+    pub now: Now,
+    pub target: Target,
+}
+
+pub struct Drawn {
+    pub now: Now,
+    pub origin: Origin,
+}
+
+fn target_at(place: Place) -> Target
+    ensures { λ r. ⌜ targetOf r ≡ cellOf place ⌝ }
+{
+    match place {
+        Place::Cpu(a) => Target::Pad(a),
+        Place::Vdp(a) => Target::Video(a),
+    }
+}
+
+fn origin_at(place: Place) -> Origin
+    ensures { λ r. ⌜ originOf r ≡ Instructions.fromCell (cellOf place) ⌝ }
+{
+    match place {
+        Place::Cpu(a) => Origin::Cpu(a),
+        Place::Vdp(a) => Origin::Vdp(a),
+    }
+}
+
+fn register_cell(image: &[u8], m: Now) -> Aimed
+    ensures { λ r. ⌜ ((p v g j : List ℕ) → valued (targetOf (r .target)) (out p v g j (r .now)) ≡ after (now (image .entry)) (out p v g j m) registerCell) ⌝ }
+{
+    let n = machine::grom::next_byte(image, m);
+    Aimed {
+        now: n,
+        target: Target::Register(n.byte),
+    }
+}
+
+fn place_target(image: &[u8], pad: &mut [u8], journal: &mut [u32], m: Now) -> Aimed
+    requires { ⌜ length (now pad) ≡ 256 ⌝ }
+    ensures { λ r. ⌜ ((v g : List ℕ) → valued (targetOf (r .target)) (out (now (pad .exit)) v g (now (journal .exit)) (r .now)) ≡ after (now (image .entry)) (out (now (pad .entry)) v g (now (journal .entry)) m) place) ⌝ }
+{
+    let o = operand::decode::operand(image, pad, journal, m, 1);
+    Aimed {
+        now: operand::places::now_of(o),
+        target: target_at(operand::places::place_of(o)),
+    }
+}
+
+// A register number, or a place.
+pub fn move_target(
+    image: &[u8],
+    pad: &mut [u8],
+    journal: &mut [u32],
+    m: Now,
+    register: bool,
+) -> Aimed
+    requires { ⌜ length (now pad) ≡ 256 ⌝ }
+    ensures { λ r. ⌜ ((v g : List ℕ) → valued (targetOf (r .target)) (out (now (pad .exit)) v g (now (journal .exit)) (r .now)) ≡ after (now (image .entry)) (out (now (pad .entry)) v g (now (journal .entry)) m) (moveTarget register)) ⌝ }
+{
+    if register {
+        return register_cell(image, m);
+    }
+    place_target(image, pad, journal, m)
+}
+
+// A two-byte address, with an index or not.
+fn grom_source(image: &[u8], pad: &[u8], m: Now, x: bool) -> Drawn
+    requires { ⌜ length (now pad) ≡ 256 ⌝ }
+    ensures { λ r. ⌜ ((v g j : List ℕ) → valued (originOf (r .origin)) (out (now (pad .entry)) v g j (r .now)) ≡ after (now (image .entry)) (out (now (pad .entry)) v g j m) (gromSource x)) ⌝ }
+{
+    let a = machine::grom::next_word(image, m);
+    let e = operand::decode::indexed(image, pad, a, x, a.word);
+    Drawn {
+        now: e,
+        origin: Origin::Grom(e.word),
+    }
+}
+
+fn cell_source(image: &[u8], pad: &mut [u8], journal: &mut [u32], m: Now) -> Drawn
+    requires { ⌜ length (now pad) ≡ 256 ⌝ }
+    ensures { λ r. ⌜ ((v g : List ℕ) → valued (originOf (r .origin)) (out (now (pad .exit)) v g (now (journal .exit)) (r .now)) ≡ after (now (image .entry)) (out (now (pad .entry)) v g (now (journal .entry)) m) cellSource) ⌝ }
+{
+    let o = operand::decode::operand(image, pad, journal, m, 1);
+    Drawn {
+        now: operand::places::now_of(o),
+        origin: origin_at(operand::places::place_of(o)),
+    }
+}
+
+// A place, or the image.
+pub fn move_source(
+    image: &[u8],
+    pad: &mut [u8],
+    journal: &mut [u32],
+    m: Now,
+    operand: bool,
+    x: bool,
+) -> Drawn
+    requires { ⌜ length (now pad) ≡ 256 ⌝ }
+    ensures { λ r. ⌜ ((v g : List ℕ) → valued (originOf (r .origin)) (out (now (pad .exit)) v g (now (journal .exit)) (r .now)) ≡ after (now (image .entry)) (out (now (pad .entry)) v g (now (journal .entry)) m) (moveSource operand x)) ⌝ }
+{
+    if operand {
+        return cell_source(image, pad, journal, m);
+    }
+    grom_source(image, pad, m, x)
+}

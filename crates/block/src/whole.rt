@@ -1,0 +1,92 @@
+// A whole MOVE.
+use crate::bytes;
+use crate::ends;
+use crate::ends::Origin;
+use crate::ends::Target;
+use machine::state::Now;
+ghost use mathlib.Core.Path.{_≡_};
+ghost use mathlib.Core.List.{List};
+ghost use Prim.Native.Nat.{ℕ};
+ghost use lib.ListN.{length};
+ghost use Rattle.rules.specs.Rules.{after};
+ghost use Rattle.rules.specs.Instructions.{moveCount, moveBytes, moveRule};
+ghost use Rattle.machine.specs.Said.{out};
+ghost use Rattle.block.specs.Ends.{targetOf, originOf};
+
+// How many bytes a length moves: from 1 to >8000 as many, any other one.
+fn move_count(l: u16) -> u16
+    ensures { λ r. ⌜ r ≡ moveCount l ⌝ }
+{
+    if l < 1 {
+        return 1;
+    }
+    if l <= 0x8000 {
+        return l;
+    }
+    1
+}
+
+// The bytes one by one, until one is refused.
+fn move_bytes(
+    image: &[u8],
+    pad: &mut [u8],
+    vram: &mut [u8],
+    regs: &mut [u8],
+    journal: &mut [u32],
+    m: Now,
+    n: u16,
+    from: Origin,
+    to: Target,
+) -> Now
+    requires { ⌜ (length (now pad) ≡ 256) × (length (now vram) ≡ 16384) × (length (now regs) ≡ 8) ⌝ }
+    ensures { λ r. ⌜ out (now (pad .exit)) (now (vram .exit)) (now (regs .exit)) (now (journal .exit)) r ≡ after (now (image .entry)) (out (now (pad .entry)) (now (vram .entry)) (now (regs .entry)) (now (journal .entry)) m) (moveBytes n 0 (originOf from) (targetOf to)) ⌝ }
+{
+    let mut x = m;
+    let mut k: u16 = 0;
+    while k < n {
+        x = bytes::move_byte(image, pad, vram, regs, journal, x, from, to, k);
+        if x.answer != 0 {
+            return x;
+        }
+        k += 1;
+    }
+    x
+}
+
+// By the low four bits of the opcode: 3 a register, 2 a source operand, 1 an index, 0 an immediate length.
+pub fn move_block(
+    image: &[u8],
+    pad: &mut [u8],
+    vram: &mut [u8],
+    regs: &mut [u8],
+    journal: &mut [u32],
+    m: Now,
+    bits: u8,
+) -> Now
+    requires { ⌜ (length (now pad) ≡ 256) × (length (now vram) ≡ 16384) × (length (now regs) ≡ 8) ⌝ }
+    ensures { λ r. ⌜ out (now (pad .exit)) (now (vram .exit)) (now (regs .exit)) (now (journal .exit)) r ≡ after (now (image .entry)) (out (now (pad .entry)) (now (vram .entry)) (now (regs .entry)) (now (journal .entry)) m) (moveRule bits) ⌝ }
+{
+    let imm = number::bits::bit(0, bits);
+    let x = number::bits::bit(1, bits);
+    let placed = number::bits::bit(2, bits);
+    let register = number::bits::bit(3, bits);
+    let l = operand::values::source(image, pad, vram, journal, m, imm, true);
+    let to = ends::move_target(image, pad, journal, l, register);
+    let from = ends::move_source(image, pad, journal, to.now, placed, x);
+    let pushed = flow::stacks::push_pc(pad, journal, from.now);
+    let origin = from.origin;
+    let target = to.target;
+    let count = move_count(l.word);
+    let moved = move_bytes(
+        image,
+        pad,
+        vram,
+        regs,
+        journal,
+        pushed,
+        count,
+        origin,
+        target,
+    );
+    flow::stacks::pop_pc(pad, journal, moved)
+}

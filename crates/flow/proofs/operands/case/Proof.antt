@@ -1,0 +1,58 @@
+-- The value, pc, the jump, and the cleared condition.
+use mathlib.Core.Path.{_∙_, ap}
+use Prim.Native.Nat.{ℕ, _+_, _*_, _%_}
+use Rattle.rules.specs.Machine.{group}
+use Rattle.rules.specs.Rules.{goto}
+use Rattle.rules.specs.Instructions.{inGroup, caseRule}
+use Rattle.rules.proofs.Laws.{seq, bind, via}
+use Rattle.machine.proofs.Acts.{here-is}
+use borrow.Author.Needs.{needs}
+use Rattle.flow.proofs.operands.case.Statement.{statement}
+use Rattle.flow.proofs.operands.case.Tie as tie
+
+operand-value-requires : tie.Need-operand-value-requires
+operand-value-requires c κs = search needs
+
+extended-requires : tie.Need-extended-requires
+extended-requires c κs = c .before .before .before .before .operand-value .ensures .0
+
+case-target-requires : tie.Need-case-target-requires
+case-target-requires c κs = search needs
+
+jump-requires : tie.Need-jump-requires
+jump-requires c κs = search needs
+
+set-condition-requires : tie.Need-set-condition-requires
+set-condition-requires c κs = search needs
+
+same-length : tie.Need-same-length
+same-length c = search needs
+
+same-length-2 : tie.Need-same-length-2
+same-length-2 c = search needs
+
+returns : tie.Need-returns
+unfolding caseRule
+returns c =
+    let at-jump = c .before .before .before .before .before .before .before in
+    let at-case-target = at-jump .before in
+    let at-extended = at-case-target .before in
+    let at-operand-value = at-extended .before .before .before .before .before in
+    λ g.
+    let pc = at-operand-value .operand-value .result .pc in
+    bind _ _ _ _ _ _ _ (at-operand-value .operand-value .ensures .1 g) (bind _ _ _ _ _ _ _ (here-is _ _ pc _)
+    (seq _ _ _ _ _ _ (via _ _ _ goto _ _ (at-case-target .case-target .ensures ∙ ap (λ (x : ℕ). inGroup pc (pc % group + 2 * x)) (at-extended .extended .ensures)) (at-jump .jump .ensures _ _ _ g _))
+    (c .before .before .before .before .set-condition .ensures _ _ g)))
+
+pub case-spec : {M : Type 1} → statement M
+case-spec =
+    tie.close
+    (tie.spec
+    operand-value-requires
+    extended-requires
+    case-target-requires
+    jump-requires
+    set-condition-requires
+    same-length
+    same-length-2
+    returns)

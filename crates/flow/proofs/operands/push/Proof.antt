@@ -1,0 +1,96 @@
+-- The value, the pointer, its test and its store, and the low byte there.
+use mathlib.Core.Path.{refl, _∙_}
+use Rattle.rules.specs.Machine.{cpu}
+use Rattle.rules.specs.Answers.{offStack}
+use Rattle.rules.specs.Rules.{need, poke}
+use Rattle.rules.specs.Instructions.{pushRule}
+use Rattle.rules.proofs.Laws.{seq, bind, via, kept-byte}
+use borrow.Author.Needs.{needs}
+use Rattle.flow.proofs.operands.push.Statement.{statement}
+use Rattle.flow.proofs.operands.push.Tie as tie
+
+operand-value-requires : tie.Need-operand-value-requires
+operand-value-requires c κs = search needs
+
+peek-pad-requires : tie.Need-peek-pad-requires
+peek-pad-requires c κs = search needs
+
+cast-up : tie.Need-cast-up
+cast-up c = search needs
+
+add-up : tie.Need-add-up
+add-up c = search needs
+
+on-data-stack-requires : tie.Need-on-data-stack-requires
+on-data-stack-requires c κs = search needs
+
+need-requires : tie.Need-need-requires
+need-requires c κs = search needs
+
+cast-b : tie.Need-cast-b
+cast-b c = search needs
+
+poke-pad-requires : tie.Need-poke-pad-requires
+poke-pad-requires c κs =
+    let at-operand-value = c .before .before .before .before .before .before .before .before .before .before .before in
+    let start = at-operand-value .before .before .before .before .before .before .before in
+    at-operand-value .operand-value .kept .1 .0 ∙ start .pre .0
+
+cast-at : tie.Need-cast-at
+cast-at c = search needs
+
+low-of-requires : tie.Need-low-of-requires
+low-of-requires c κs = search needs
+
+poke-pad-requires-2 : tie.Need-poke-pad-requires-2
+poke-pad-requires-2 c κs =
+    let at-poke-pad = c .before .before .before .before .before .before .before in
+    let at-operand-value = at-poke-pad .before .before .before .before .before .before .before .before .before .before .before .before in
+    let start = at-operand-value .before .before .before .before .before .before .before in
+    at-poke-pad .poke-pad .kept .0 ∙ at-operand-value .operand-value .kept .1 .0 ∙ start .pre .0
+
+same-length : tie.Need-same-length
+same-length c =
+    let at-poke-pad = c .before .before .before .before .before .before .before .before .before .before .before .before in
+    let at-operand-value = at-poke-pad .before .before .before .before .before .before .before .before .before .before .before .before in
+    c .before .before .before .before .poke-pad2 .kept .0 ∙ at-poke-pad .poke-pad .kept .0 ∙ at-operand-value .operand-value .kept .1 .0
+
+same-length-2 : tie.Need-same-length-2
+same-length-2 c =
+    let at-poke-pad = c .before .before .before .before .before .before .before .before .before .before .before .before in
+    let at-operand-value = at-poke-pad .before .before .before .before .before .before .before .before .before .before .before .before in
+    c .before .before .before .before .poke-pad2 .kept .1 .0 ∙ at-poke-pad .poke-pad .kept .1 .0 ∙ at-operand-value .operand-value .kept .1 .1 .1 .0
+
+returns : tie.Need-returns
+unfolding pushRule
+returns c =
+    let at-low-of = c .before .before .before .before .before .before .before in
+    let at-poke-pad = at-low-of .before .before .before .before .before in
+    let at-need = at-poke-pad .before .before .before in
+    let at-on-data-stack = at-need .before in
+    let at-peek-pad = at-on-data-stack .before .before in
+    let at-operand-value = at-peek-pad .before .before .before .before .before .before in
+    λ g.
+    bind _ _ _ _ _ _ _ (at-operand-value .operand-value .ensures .1 g) (bind _ _ _ _ _ _ _ (at-peek-pad .peek-pad .ensures _ _ g _)
+    (seq _ _ _ _ _ _ (via _ _ _ (λ b. need b offStack) _ _ (at-on-data-stack .on-data-stack .ensures) (at-need .need .ensures offStack refl _ _ _ g _))
+    (seq _ _ _ _ _ _ (at-poke-pad .poke-pad .ensures _ _ g ∙ kept-byte _ _ _ _ _ _ refl)
+    (via _ _ _ (poke cpu _) _ _ (at-low-of .low-of .ensures) (c .before .before .before .before .poke-pad2 .ensures _ _ g)))))
+
+pub push-spec : {M : Type 1} → statement M
+push-spec =
+    tie.close
+    (tie.spec
+    operand-value-requires
+    peek-pad-requires
+    cast-up
+    add-up
+    on-data-stack-requires
+    need-requires
+    cast-b
+    poke-pad-requires
+    cast-at
+    low-of-requires
+    poke-pad-requires-2
+    same-length
+    same-length-2
+    returns)
