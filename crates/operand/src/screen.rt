@@ -5,16 +5,17 @@ use machine::state::Now;
 use machine::vdp;
 ghost use mathlib.Core.Path.{_≡_};
 ghost use mathlib.Core.List.{List};
-ghost use Prim.Native.Nat.{ℕ};
+ghost use Prim.Native.Nat.{ℕ, _<_};
 ghost use lib.ListN.{length};
 ghost use Rattle.rules.specs.Rules.{after, valued};
 ghost use Rattle.rules.specs.Operands;
 ghost use Rattle.rules.specs.Operands.{onScreen};
 ghost use Rattle.machine.specs.Said.{out};
 
+// The position that row and column name. Also of a machine that has refused it is below 8,192: a sum with a step fits.
 pub fn position(pad: &[u8], m: Now) -> Now
     requires { ⌜ length (now pad) ≡ 256 ⌝ }
-    ensures { λ r. ⌜ ((i v g j : List ℕ) → valued (r .word) (out (now (pad .entry)) v g j r) ≡ after i (out (now (pad .entry)) v g j m) Operands.position) ⌝ }
+    ensures { λ r. ⌜ (r .word < 8192) × ((i v g j : List ℕ) → valued (r .word) (out (now (pad .entry)) v g j r) ≡ after i (out (now (pad .entry)) v g j m) Operands.position) ⌝ }
 {
     let row = cpu::peek_pad(pad, m, 0x7E);
     let column = cpu::peek_pad(pad, row, 0x7F);

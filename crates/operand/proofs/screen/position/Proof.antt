@@ -1,4 +1,5 @@
--- Row, column, and the position of them.
+-- Row, column, and the position of them, which is at most 255 * 32 + 31.
+use native.Mathlib.Omega.{arith}
 use Rattle.rules.specs.Rules.{give}
 use Rattle.rules.specs.Operands.{position}
 use Rattle.rules.proofs.Laws.{bind, via}
@@ -20,10 +21,11 @@ give-word-requires c κs = search needs
 
 returns : tie.Need-returns
 unfolding position
-returns c =
-    λ i v g j.
-    bind _ _ _ _ _ _ _ (c .before .before .before .peek-pad .ensures i v g j) (bind _ _ _ _ _ _ _ (c .before .before .peek-pad2 .ensures i v g j)
-    (via _ _ _ give _ _ (c .before .position-of .ensures) (c .give-word .ensures .1 i _ v g j)))
+returns c = (
+  omega (arith, c .give-word .ensures .0, c .before .position-of .ensures),
+  λ i v g j. bind _ _ _ _ _ _ _ (c .before .before .before .peek-pad .ensures i v g j) (bind _ _ _ _ _ _ _ (c .before .before .peek-pad2 .ensures i v g j)
+      (via _ _ _ give _ _ (c .before .position-of .ensures) (c .give-word .ensures .1 i _ v g j))),
+)
 
 pub position-spec : {M : Type 1} → statement M
 position-spec =

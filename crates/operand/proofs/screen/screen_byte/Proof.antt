@@ -27,7 +27,7 @@ returns : tie.Need-returns
 unfolding screenByte
 returns c =
     λ i g j.
-    bind _ _ _ _ _ _ _ (c .before .before .before .before .position .ensures i _ g j)
+    bind _ _ _ _ _ _ _ (c .before .before .before .before .position .ensures .1 i _ g j)
     (seq _ _ _ _ _ _ (via _ _ _ (λ b. need b offScreen) _ _ (c .before .before .before .on-screen .ensures) (c .before .before .need .ensures offScreen refl i _ _ g j)) (c .peek-vdp .ensures i _ g j))
 
 pub screen-byte-spec : {M : Type 1} → statement M

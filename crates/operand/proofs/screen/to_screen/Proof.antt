@@ -21,7 +21,7 @@ returns : tie.Need-returns
 unfolding toScreen
 returns c =
     let at-position = c .before .before .before .before .before .before .before in
-    λ i g. bind _ _ _ _ _ _ _ (at-position .position .ensures i _ g _) (c .before .before .before .before .draw .ensures i _ g)
+    λ i g. bind _ _ _ _ _ _ _ (at-position .position .ensures .1 i _ g _) (c .before .before .before .before .draw .ensures i _ g)
 
 pub to-screen-spec : {M : Type 1} → statement M
 to-screen-spec =

@@ -1,0 +1,48 @@
+-- The lower pointer stored, and one block fewer.
+use native.Mathlib.Omega.{arith}
+use Rattle.rules.specs.Machine.{cpu}
+use Rattle.rules.specs.Rules.{poke}
+use Rattle.rules.specs.Format.{closeBlock}
+use Rattle.rules.proofs.Laws.{seq, via}
+use borrow.Author.Needs.{needs}
+use Rattle.format.proofs.codes.close_block.Statement.{statement}
+use Rattle.format.proofs.codes.close_block.Tie as tie
+
+lowered-requires : tie.Need-lowered-requires
+lowered-requires c κs = search needs
+
+poke-pad-requires : tie.Need-poke-pad-requires
+poke-pad-requires c κs = search needs
+
+sub-fewer : tie.Need-sub-fewer
+sub-fewer c = search needs
+
+go-on-requires : tie.Need-go-on-requires
+go-on-requires c κs = search needs
+
+same-length : tie.Need-same-length
+same-length c = search needs
+
+same-length-2 : tie.Need-same-length-2
+same-length-2 c = search needs
+
+returns : tie.Need-returns
+unfolding closeBlock
+returns c =
+    let at-poke-pad = c .before .before .before .before .before in
+    let at-lowered = at-poke-pad .before .before .before in (
+      omega (arith, c .go-on .ensures .0),
+      λ i v g. seq _ _ _ _ _ _ (via _ _ _ (poke cpu _) _ _ (at-lowered .lowered .ensures) (at-poke-pad .poke-pad .ensures i v g)) (c .go-on .ensures .1 i _ v g _),
+    )
+
+pub close-block-spec : {M : Type 1} → statement M
+close-block-spec =
+    tie.close
+    (tie.spec
+    lowered-requires
+    poke-pad-requires
+    sub-fewer
+    go-on-requires
+    same-length
+    same-length-2
+    returns)

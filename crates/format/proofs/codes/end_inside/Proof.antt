@@ -1,0 +1,75 @@
+-- The address, the pointer and the count there read, the count up by 1, and the turn by it.
+use mathlib.Core.Path.{_∙_}
+use Prim.Native.Nat.{ℕ}
+use Rattle.rules.specs.Machine.{cpu}
+use Rattle.rules.specs.Rules.{Rule, _>>_, poke}
+use Rattle.rules.specs.Format.{Turn, blockTurn, endInside}
+use Rattle.rules.proofs.Laws.{bind, seq, via}
+use borrow.Author.Needs.{needs}
+use Rattle.format.proofs.codes.end_inside.Statement.{statement}
+use Rattle.format.proofs.codes.end_inside.Tie as tie
+
+next-word-requires : tie.Need-next-word-requires
+next-word-requires c κs = search needs
+
+peek-pad-requires : tie.Need-peek-pad-requires
+peek-pad-requires c κs = search needs
+
+cast-at : tie.Need-cast-at
+cast-at c = search needs
+
+peek-pad-requires-2 : tie.Need-peek-pad-requires-2
+peek-pad-requires-2 c κs = search needs
+
+wrapping-add-u8-requires : tie.Need-wrapping-add-u8-requires
+wrapping-add-u8-requires c κs = search needs
+
+poke-pad-requires : tie.Need-poke-pad-requires
+poke-pad-requires c κs = search needs
+
+block-turn-requires : tie.Need-block-turn-requires
+block-turn-requires c κs =
+    let at-poke-pad = c .before .before .before .before .before .before in
+    let start = at-poke-pad .before .before .before .before .before .before .before .before .before .before .before .before .before in
+    (at-poke-pad .poke-pad .kept .0 ∙ start .pre .0, start .pre .1)
+
+same-length : tie.Need-same-length
+same-length c = search needs
+
+same-length-2 : tie.Need-same-length-2
+same-length-2 c = search needs
+
+returns : tie.Need-returns
+unfolding endInside
+returns c =
+    let at-poke-pad = c .before .before .before .before .before .before .before .before .before .before .before in
+    let at-wrapping-add-u8 = at-poke-pad .before .before .before in
+    let at-peek-pad2 = at-wrapping-add-u8 .before in
+    let at-peek-pad = at-peek-pad2 .before .before .before in
+    let at-next-word = at-peek-pad .before .before in
+    let start = at-next-word .before .before .before .before in
+    let p = at-peek-pad .peek-pad .result .byte in
+    let rest : ℕ → Rule Turn = λ n. poke cpu p n >> blockTurn n p (at-next-word .next-word .result .word) (start .args .bias) (start .args .blocks) in (
+      c .before .before .before .before .block-turn .ensures .0,
+      λ v g.
+          bind _ _ _ _ _ _ _ (at-next-word .next-word .ensures _ v g _)
+          (bind _ _ _ _ _ _ _ (at-peek-pad .peek-pad .ensures _ v g _)
+          (bind _ _ _ _ _ _ _ (at-peek-pad2 .peek-pad2 .ensures _ v g _)
+          (via _ _ _ rest _ _ (at-wrapping-add-u8 .wrapping-add-u8 .ensures)
+          (seq _ _ _ _ _ _ (at-poke-pad .poke-pad .ensures _ v g) (c .before .before .before .before .block-turn .ensures .1 _ v g))))),
+    )
+
+pub end-inside-spec : {M : Type 1} → statement M
+end-inside-spec =
+    tie.close
+    (tie.spec
+    next-word-requires
+    peek-pad-requires
+    cast-at
+    peek-pad-requires-2
+    wrapping-add-u8-requires
+    poke-pad-requires
+    block-turn-requires
+    same-length
+    same-length-2
+    returns)

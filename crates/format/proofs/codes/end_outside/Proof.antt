@@ -1,0 +1,24 @@
+-- Row and column stored, and the end.
+use mathlib.Core.Path.{refl}
+use Rattle.rules.specs.Format.{endOutside}
+use Rattle.rules.proofs.Laws.{seq, gives}
+use Rattle.format.specs.Turns.{turnOf}
+use borrow.Author.Needs.{needs}
+use Rattle.format.proofs.codes.end_outside.Statement.{statement}
+use Rattle.format.proofs.codes.end_outside.Tie as tie
+
+settle-cursor-requires : tie.Need-settle-cursor-requires
+settle-cursor-requires c κs = search needs
+
+same-length : tie.Need-same-length
+same-length c = search needs
+
+same-length-2 : tie.Need-same-length-2
+same-length-2 c = search needs
+
+returns : tie.Need-returns
+unfolding endOutside turnOf
+returns c = (refl, λ i v g. seq _ _ _ _ _ _ (c .before .before .before .before .settle-cursor .ensures i v g) (gives _ _ _ _ refl))
+
+pub end-outside-spec : {M : Type 1} → statement M
+end-outside-spec = tie.close (tie.spec settle-cursor-requires same-length same-length-2 returns)

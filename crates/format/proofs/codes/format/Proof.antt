@@ -1,0 +1,124 @@
+-- The invariant: the codes that are left, done now, are what the whole does; the lengths are as they were; and each code opens one block at most.
+use mathlib.Core.Path.{_≡_, refl, _∙_}
+use mathlib.Core.List.{List}
+use Prim.Native.Nat.{ℕ, _+_, _≤_}
+use native.Mathlib.Omega.{arith}
+use lib.ListN.{length}
+use borrow.Author.Needs.{needs}
+use borrow.Author.Tests.{not-true, not-false}
+use Rattle.rules.specs.Answers.{tooLong}
+use Rattle.rules.specs.Rules.{after}
+use Rattle.rules.specs.Format.{on, codes, fmtRule}
+use Rattle.machine.specs.Said.{out}
+use Rattle.format.proofs.Laws.{codes-more, codes-over, codes-refused, codes-out}
+use Rattle.format.proofs.codes.format.Statement.{statement}
+use Rattle.format.proofs.codes.format.Tie as tie
+
+abbrev Inv-loop : tie.InvT-loop
+Inv-loop image pad₀ vram₀ journal₀ x₀ bias₀ blocks₀ left₀ pad vram journal x bias blocks left =
+    ((g : List ℕ) → after image (out pad vram g journal x) (codes left (on bias blocks))
+    ≡ after image (out pad₀ vram₀ g journal₀ x₀) (codes left₀ (on bias₀ blocks₀)))
+    × (length pad ≡ length pad₀) × (length vram ≡ length vram₀) × (length journal ≡ length journal₀) × (blocks + left ≤ 16384)
+
+abbrev μ-loop : tie.MeasureT-loop
+μ-loop image pad₀ vram₀ journal₀ x₀ bias₀ blocks₀ left₀ pad vram journal x bias blocks left = left
+
+loop-holds : tie.Need-loop-holds Inv-loop μ-loop
+loop-holds c = (λ g. refl, refl, refl, refl, omega arith)
+
+code-requires : tie.Need-code-requires Inv-loop μ-loop
+code-requires c κs = search needs
+
+same-length : tie.Need-same-length Inv-loop μ-loop
+same-length c = search needs
+
+same-length-2 : tie.Need-same-length-2 Inv-loop μ-loop
+same-length-2 c = search needs
+
+same-length-3 : tie.Need-same-length-3 Inv-loop μ-loop
+same-length-3 c = search needs
+
+returns : tie.Need-returns Inv-loop μ-loop
+unfolding fmtRule
+returns c =
+    let at-code = c .before .before .before .before .before .before .before .before .before in
+    let at-loop-test = at-code .before .before .before .before in
+    let at-loop = at-loop-test .before in
+    λ g. codes-refused _ _ _ _ _ _ _ _ _ (at-loop-test .loop-test .taken) (at-code .code .ensures .1 g) (c .if1 .taken) ∙ at-loop .loop .inv .0 g
+
+same-length-4 : tie.Need-same-length-4 Inv-loop μ-loop
+same-length-4 c = search needs
+
+same-length-5 : tie.Need-same-length-5 Inv-loop μ-loop
+same-length-5 c = search needs
+
+same-length-6 : tie.Need-same-length-6 Inv-loop μ-loop
+same-length-6 c = search needs
+
+returns-2 : tie.Need-returns-2 Inv-loop μ-loop
+unfolding fmtRule
+returns-2 c =
+    let at-code = c .before .before .before .before .before .before .before .before .before .before .before in
+    let at-loop-test = at-code .before .before .before .before in
+    let at-loop = at-loop-test .before in
+    λ g. codes-over _ _ _ _ _ _ _ _ _ (at-loop-test .loop-test .taken) (at-code .code .ensures .1 g) (not-true _ (c .if2 .taken)) ∙ at-loop .loop .inv .0 g
+
+sub-left : tie.Need-sub-left Inv-loop μ-loop
+sub-left c = search needs
+
+loop-less : tie.Need-loop-less Inv-loop μ-loop
+loop-less c = search needs
+
+loop-again : tie.Need-loop-again Inv-loop μ-loop
+loop-again c =
+    let at-code = c .before .before .before .before .before .before .before .before .before .before .before in
+    let at-loop-test = at-code .before .before .before .before in
+    let at-loop = at-loop-test .before in (
+      λ g. codes-more _ _ _ _ _ _ _ _ _ (at-loop-test .loop-test .taken) (at-code .code .ensures .1 g) (not-false _ (c .if2 .left)) ∙ at-loop .loop .inv .0 g,
+      search needs,
+      search needs,
+      search needs,
+      omega (arith, at-code .code .ensures .0, at-loop .loop .inv .4, at-loop-test .loop-test .taken),
+    )
+
+need-requires : tie.Need-need-requires Inv-loop μ-loop
+need-requires c κs = search needs
+
+same-length-7 : tie.Need-same-length-7 Inv-loop μ-loop
+same-length-7 c = search needs
+
+same-length-8 : tie.Need-same-length-8 Inv-loop μ-loop
+same-length-8 c = search needs
+
+same-length-9 : tie.Need-same-length-9 Inv-loop μ-loop
+same-length-9 c = search needs
+
+returns-3 : tie.Need-returns-3 Inv-loop μ-loop
+unfolding fmtRule
+returns-3 c =
+    λ g. c .need .ensures tooLong refl _ _ _ g _ ∙ codes-out _ _ _ _ _ (omega arith) ∙ c .before .before .loop .inv .0 g
+
+pub format-spec : {M : Type 1} → statement M
+format-spec =
+    tie.close
+    (tie.spec
+    Inv-loop
+    μ-loop
+    loop-holds
+    code-requires
+    same-length
+    same-length-2
+    same-length-3
+    returns
+    same-length-4
+    same-length-5
+    same-length-6
+    returns-2
+    sub-left
+    loop-less
+    loop-again
+    need-requires
+    same-length-7
+    same-length-8
+    same-length-9
+    returns-3)

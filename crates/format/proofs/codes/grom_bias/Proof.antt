@@ -1,0 +1,21 @@
+-- The bias read, and on with it.
+use native.Mathlib.Omega.{arith}
+use Rattle.rules.specs.Format.{gromBias}
+use Rattle.rules.proofs.Laws.{bind}
+use borrow.Author.Needs.{needs}
+use Rattle.format.proofs.codes.grom_bias.Statement.{statement}
+use Rattle.format.proofs.codes.grom_bias.Tie as tie
+
+next-byte-requires : tie.Need-next-byte-requires
+next-byte-requires c κs = search needs
+
+go-on-requires : tie.Need-go-on-requires
+go-on-requires c κs = search needs
+
+returns : tie.Need-returns
+unfolding gromBias
+returns c =
+    (omega (arith, c .go-on .ensures .0), λ p v g j. bind _ _ _ _ _ _ _ (c .before .next-byte .ensures p v g j) (c .go-on .ensures .1 _ p v g j))
+
+pub grom-bias-spec : {M : Type 1} → statement M
+grom-bias-spec = tie.close (tie.spec next-byte-requires go-on-requires returns)

@@ -1,0 +1,21 @@
+-- The jump, and on.
+use native.Mathlib.Omega.{arith}
+use Rattle.rules.specs.Format.{repeatBlock}
+use Rattle.rules.proofs.Laws.{seq}
+use borrow.Author.Needs.{needs}
+use Rattle.format.proofs.codes.repeat_block.Statement.{statement}
+use Rattle.format.proofs.codes.repeat_block.Tie as tie
+
+jump-requires : tie.Need-jump-requires
+jump-requires c κs = search needs
+
+go-on-requires : tie.Need-go-on-requires
+go-on-requires c κs = search needs
+
+returns : tie.Need-returns
+unfolding repeatBlock
+returns c =
+    (omega (arith, c .go-on .ensures .0), λ i p v g j. seq _ _ _ _ _ _ (c .before .jump .ensures i p v g j) (c .go-on .ensures .1 i p v g j))
+
+pub repeat-block-spec : {M : Type 1} → statement M
+repeat-block-spec = tie.close (tie.spec jump-requires go-on-requires returns)

@@ -1,0 +1,48 @@
+-- Row and column stored: of the row a store keeps a byte.
+use mathlib.Core.Path.{_∙_}
+use Rattle.rules.specs.Machine.{cpu}
+use Rattle.rules.specs.Rules.{poke}
+use Rattle.rules.specs.Format.{setCursor}
+use Rattle.rules.proofs.Laws.{seq, via, kept-byte}
+use borrow.Author.Needs.{needs}
+use Rattle.format.proofs.cursor.set_cursor.Statement.{statement}
+use Rattle.format.proofs.cursor.set_cursor.Tie as tie
+
+row-of-requires : tie.Need-row-of-requires
+row-of-requires c κs = search needs
+
+column-of-requires : tie.Need-column-of-requires
+column-of-requires c κs = search needs
+
+poke-pad-requires : tie.Need-poke-pad-requires
+poke-pad-requires c κs = search needs
+
+poke-pad-requires-2 : tie.Need-poke-pad-requires-2
+poke-pad-requires-2 c κs = search needs
+
+same-length : tie.Need-same-length
+same-length c = search needs
+
+same-length-2 : tie.Need-same-length-2
+same-length-2 c = search needs
+
+returns : tie.Need-returns
+unfolding setCursor
+returns c =
+    let at-poke-pad = c .before .before .before .before .before .before .before .before .before .before .before in
+    let at-column-of = at-poke-pad .before .before .before in
+    let at-row-of = at-column-of .before in
+    λ i v g. seq _ _ _ _ _ _ (at-poke-pad .poke-pad .ensures i v g ∙ kept-byte i _ _ _ _ _ (at-row-of .row-of .ensures))
+    (via _ _ _ (poke cpu _) _ _ (at-column-of .column-of .ensures) (c .before .before .before .before .poke-pad2 .ensures i v g))
+
+pub set-cursor-spec : {M : Type 1} → statement M
+set-cursor-spec =
+    tie.close
+    (tie.spec
+    row-of-requires
+    column-of-requires
+    poke-pad-requires
+    poke-pad-requires-2
+    same-length
+    same-length-2
+    returns)

@@ -1,0 +1,99 @@
+-- The invariant: what is left to show, shown now, is what the whole shows, and the lengths are as they were. A refused turn leaves the rest still.
+use mathlib.Core.Path.{_≡_, refl, _∙_}
+use mathlib.Core.List.{List}
+use Prim.Native.Nat.{ℕ, _+_, _≤_}
+use native.Mathlib.Omega.{arith}
+use lib.ListN.{length}
+use borrow.Author.Needs.{needs}
+use Rattle.rules.specs.Rules.{after}
+use Rattle.rules.specs.Format.{padText}
+use Rattle.machine.specs.Said.{out}
+use Rattle.machine.proofs.Acts.{still}
+use Rattle.format.proofs.Laws.{pad-turns, turn-more, turn-none}
+use Rattle.format.proofs.text.pad_text.Statement.{statement}
+use Rattle.format.proofs.text.pad_text.Tie as tie
+
+abbrev Inv-loop : tie.InvT-loop
+Inv-loop pad₀ vram₀ journal₀ n a bias x₀ left₀ at₀ pad vram journal x left at =
+    ((i g : List ℕ) → after i (out pad vram g journal x) (padText left at bias) ≡ after i (out pad₀ vram₀ g journal₀ x₀) (padText n a bias))
+    × (length pad ≡ length pad₀) × (length vram ≡ length vram₀) × (length journal ≡ length journal₀) × (at + left ≤ a + n)
+
+abbrev μ-loop : tie.MeasureT-loop
+μ-loop pad₀ vram₀ journal₀ n a bias x₀ left₀ at₀ pad vram journal x left at = left
+
+loop-holds : tie.Need-loop-holds Inv-loop μ-loop
+loop-holds c = (λ i g. refl, refl, refl, refl, omega arith)
+
+show-cell-requires : tie.Need-show-cell-requires Inv-loop μ-loop
+show-cell-requires c κs = search needs
+
+same-length : tie.Need-same-length Inv-loop μ-loop
+same-length c = search needs
+
+same-length-2 : tie.Need-same-length-2 Inv-loop μ-loop
+same-length-2 c = search needs
+
+same-length-3 : tie.Need-same-length-3 Inv-loop μ-loop
+same-length-3 c = search needs
+
+returns : tie.Need-returns Inv-loop μ-loop
+returns c =
+    let at-show-cell = c .before .before .before .before .before .before .before .before in
+    let at-loop-test = at-show-cell .before .before .before .before in
+    let at-loop = at-loop-test .before in
+    λ i g.
+    still _ _ _ _ _ (c .if1 .taken) ∙ turn-more (pad-turns _) _ _ _ _ _ (at-loop-test .loop-test .taken) (at-show-cell .show-cell .ensures i g) ∙ at-loop .loop .inv .0 i g
+
+sub-left : tie.Need-sub-left Inv-loop μ-loop
+sub-left c = search needs
+
+add-at : tie.Need-add-at Inv-loop μ-loop
+add-at c = search needs
+
+loop-less : tie.Need-loop-less Inv-loop μ-loop
+loop-less c = search needs
+
+loop-again : tie.Need-loop-again Inv-loop μ-loop
+loop-again c =
+    let at-show-cell = c .before .before .before .before .before .before .before .before in
+    let at-loop-test = at-show-cell .before .before .before .before in
+    let at-loop = at-loop-test .before in (
+      λ i g. turn-more (pad-turns _) _ _ _ _ _ (at-loop-test .loop-test .taken) (at-show-cell .show-cell .ensures i g) ∙ at-loop .loop .inv .0 i g,
+      search needs,
+      search needs,
+      search needs,
+      omega arith,
+    )
+
+same-length-4 : tie.Need-same-length-4 Inv-loop μ-loop
+same-length-4 c = search needs
+
+same-length-5 : tie.Need-same-length-5 Inv-loop μ-loop
+same-length-5 c = search needs
+
+same-length-6 : tie.Need-same-length-6 Inv-loop μ-loop
+same-length-6 c = search needs
+
+returns-2 : tie.Need-returns-2 Inv-loop μ-loop
+returns-2 c = λ i g. turn-none (pad-turns _) _ _ _ _ (omega arith) ∙ c .before .loop .inv .0 i g
+
+pub pad-text-spec : {M : Type 1} → statement M
+pad-text-spec =
+    tie.close
+    (tie.spec
+    Inv-loop
+    μ-loop
+    loop-holds
+    show-cell-requires
+    same-length
+    same-length-2
+    same-length-3
+    returns
+    sub-left
+    add-at
+    loop-less
+    loop-again
+    same-length-4
+    same-length-5
+    same-length-6
+    returns-2)

@@ -1,0 +1,44 @@
+-- A character read from the pad, and shown with the bias.
+use Rattle.rules.specs.Format.{show, showCell}
+use Rattle.rules.proofs.Laws.{bind, via}
+use borrow.Author.Needs.{needs}
+use Rattle.format.proofs.text.show_cell.Statement.{statement}
+use Rattle.format.proofs.text.show_cell.Tie as tie
+
+peek-pad-requires : tie.Need-peek-pad-requires
+peek-pad-requires c κs = search needs
+
+wrapping-add-u8-requires : tie.Need-wrapping-add-u8-requires
+wrapping-add-u8-requires c κs = search needs
+
+show-requires : tie.Need-show-requires
+show-requires c κs = search needs
+
+same-length : tie.Need-same-length
+same-length c = search needs
+
+same-length-2 : tie.Need-same-length-2
+same-length-2 c = search needs
+
+same-length-3 : tie.Need-same-length-3
+same-length-3 c = search needs
+
+returns : tie.Need-returns
+unfolding showCell
+returns c =
+    let at-show = c .before .before .before .before .before .before in
+    let at-wrapping-add-u8 = at-show .before .before .before .before in
+    let at-peek-pad = at-wrapping-add-u8 .before in
+    λ i g. bind _ _ _ _ _ _ _ (at-peek-pad .peek-pad .ensures i _ g _) (via _ _ _ (show _) _ _ (at-wrapping-add-u8 .wrapping-add-u8 .ensures) (at-show .show .ensures i g))
+
+pub show-cell-spec : {M : Type 1} → statement M
+show-cell-spec =
+    tie.close
+    (tie.spec
+    peek-pad-requires
+    wrapping-add-u8-requires
+    show-requires
+    same-length
+    same-length-2
+    same-length-3
+    returns)

@@ -1,0 +1,94 @@
+-- The invariant: what is left to show, shown now, is what the whole shows, and the lengths are as they were. A refused turn leaves the rest still.
+use mathlib.Core.Path.{_≡_, refl, _∙_}
+use mathlib.Core.List.{List}
+use Prim.Native.Nat.{ℕ}
+use native.Mathlib.Omega.{arith}
+use lib.ListN.{length}
+use borrow.Author.Needs.{needs}
+use Rattle.rules.specs.Rules.{after}
+use Rattle.rules.specs.Format.{showTimes}
+use Rattle.machine.specs.Said.{out}
+use Rattle.machine.proofs.Acts.{still}
+use Rattle.format.proofs.Laws.{times-turns, turn-more, turn-none}
+use Rattle.format.proofs.text.show_times.Statement.{statement}
+use Rattle.format.proofs.text.show_times.Tie as tie
+
+abbrev Inv-loop : tie.InvT-loop
+Inv-loop pad₀ vram₀ journal₀ n step b x₀ left₀ pad vram journal x left =
+    ((i g : List ℕ) → after i (out pad vram g journal x) (showTimes left step b) ≡ after i (out pad₀ vram₀ g journal₀ x₀) (showTimes n step b))
+    × (length pad ≡ length pad₀) × (length vram ≡ length vram₀) × (length journal ≡ length journal₀)
+
+abbrev μ-loop : tie.MeasureT-loop
+μ-loop pad₀ vram₀ journal₀ n step b x₀ left₀ pad vram journal x left = left
+
+loop-holds : tie.Need-loop-holds Inv-loop μ-loop
+loop-holds c = (λ i g. refl, refl, refl, refl)
+
+show-requires : tie.Need-show-requires Inv-loop μ-loop
+show-requires c κs = search needs
+
+same-length : tie.Need-same-length Inv-loop μ-loop
+same-length c = search needs
+
+same-length-2 : tie.Need-same-length-2 Inv-loop μ-loop
+same-length-2 c = search needs
+
+same-length-3 : tie.Need-same-length-3 Inv-loop μ-loop
+same-length-3 c = search needs
+
+returns : tie.Need-returns Inv-loop μ-loop
+returns c =
+    let at-show = c .before .before .before .before .before .before .before .before in
+    let at-loop-test = at-show .before .before .before .before in
+    let at-loop = at-loop-test .before in
+    λ i g.
+    still _ _ _ _ _ (c .if1 .taken) ∙ turn-more (times-turns _ _) _ _ _ _ 0 (at-loop-test .loop-test .taken) (at-show .show .ensures i g) ∙ at-loop .loop .inv .0 i g
+
+sub-left : tie.Need-sub-left Inv-loop μ-loop
+sub-left c = search needs
+
+loop-less : tie.Need-loop-less Inv-loop μ-loop
+loop-less c = search needs
+
+loop-again : tie.Need-loop-again Inv-loop μ-loop
+loop-again c =
+    let at-show = c .before .before .before .before .before .before .before .before in
+    let at-loop-test = at-show .before .before .before .before in
+    let at-loop = at-loop-test .before in (
+      λ i g. turn-more (times-turns _ _) _ _ _ _ 0 (at-loop-test .loop-test .taken) (at-show .show .ensures i g) ∙ at-loop .loop .inv .0 i g,
+      search needs,
+      search needs,
+      search needs,
+    )
+
+same-length-4 : tie.Need-same-length-4 Inv-loop μ-loop
+same-length-4 c = search needs
+
+same-length-5 : tie.Need-same-length-5 Inv-loop μ-loop
+same-length-5 c = search needs
+
+same-length-6 : tie.Need-same-length-6 Inv-loop μ-loop
+same-length-6 c = search needs
+
+returns-2 : tie.Need-returns-2 Inv-loop μ-loop
+returns-2 c = λ i g. turn-none (times-turns _ _) _ _ _ 0 (omega arith) ∙ c .before .loop .inv .0 i g
+
+pub show-times-spec : {M : Type 1} → statement M
+show-times-spec =
+    tie.close
+    (tie.spec
+    Inv-loop
+    μ-loop
+    loop-holds
+    show-requires
+    same-length
+    same-length-2
+    same-length-3
+    returns
+    sub-left
+    loop-less
+    loop-again
+    same-length-4
+    same-length-5
+    same-length-6
+    returns-2)

@@ -1,0 +1,322 @@
+// The codes of a format string: one function for each kind, one that picks among them, and the loop.
+use crate::cursor;
+use crate::text;
+use machine::state::Now;
+ghost use mathlib.Core.Path.{_≡_};
+ghost use mathlib.Core.List.{List};
+ghost use Prim.Native.Nat.{ℕ, _+_, _-_, _≤_, _<_};
+ghost use lib.ListN.{length};
+ghost use Rattle.rules.specs.Rules.{after, give};
+ghost use Rattle.rules.specs.Format;
+ghost use Rattle.rules.specs.Format.{on, count, openBlock, closeBlock, repeatBlock, blockTurn, endInside, endOutside, endCode, gromBias, operandBias, codeRule, fmtRule};
+ghost use Rattle.machine.specs.Said.{out};
+ghost use Rattle.format.specs.Turns.{turned, textCode, highCode};
+
+const POINTER: usize = 0x73;
+
+const TOO_LONG: u8 = 8;
+
+const MOST_CODES: u16 = 16384;
+
+// Where a format string stands after a code: going on with a bias and so many blocks not yet closed, or at its end.
+pub struct Turn {
+    pub now: Now,
+    pub going: bool,
+    pub bias: u8,
+    pub blocks: u16,
+}
+
+fn go_on(m: Now, bias: u8, blocks: u16) -> Turn
+    ensures { λ r. ⌜ (r .blocks ≡ blocks) × ((i p v g j : List ℕ) → turned p v g j r ≡ after i (out p v g j m) (give (on bias blocks))) ⌝ }
+{
+    Turn {
+        now: m,
+        going: true,
+        bias,
+        blocks,
+    }
+}
+
+// ---- blocks
+
+// The stack pointer up by 2, and there 256 minus the count.
+fn open_block(pad: &mut [u8], journal: &mut [u32], m: Now, n: u16, bias: u8, blocks: u16) -> Turn
+    requires { ⌜ (length (now pad) ≡ 256) × (0 < n) × (n ≤ 32) × (blocks ≤ 16384) ⌝ }
+    ensures { λ r. ⌜ (r .blocks ≤ blocks + 1) × ((i v g : List ℕ) → turned (now (pad .exit)) v g (now (journal .exit)) r ≡ after i (out (now (pad .entry)) v g (now (journal .entry)) m) (openBlock n bias blocks)) ⌝ }
+{
+    let p = flow::stacks::raise(pad, journal, m);
+    let at = p.byte as usize;
+    let rest = 256 - n;
+    let b = rest as u8;
+    let stored = machine::pad::poke_pad(pad, journal, p, at, b);
+    let more = blocks + 1;
+    go_on(stored, bias, more)
+}
+
+// A pointer down by 2; as the rule's difference does, it ends at 0.
+fn lowered(p: u8) -> u8
+    ensures { λ r. ⌜ r ≡ p - 2 ⌝ }
+{
+    if p < 2 {
+        return 0;
+    }
+    p - 2
+}
+
+fn close_block(pad: &mut [u8], journal: &mut [u32], m: Now, p: u8, bias: u8, blocks: u16) -> Turn
+    requires { ⌜ (length (now pad) ≡ 256) × (0 < blocks) ⌝ }
+    ensures { λ r. ⌜ (r .blocks ≤ blocks + 1) × ((i v g : List ℕ) → turned (now (pad .exit)) v g (now (journal .exit)) r ≡ after i (out (now (pad .entry)) v g (now (journal .entry)) m) (closeBlock p bias blocks)) ⌝ }
+{
+    let down = lowered(p);
+    let stored = machine::pad::poke_pad(pad, journal, m, POINTER, down);
+    let fewer = blocks - 1;
+    go_on(stored, bias, fewer)
+}
+
+fn repeat_block(m: Now, a: u16, bias: u8, blocks: u16) -> Turn
+    ensures { λ r. ⌜ (r .blocks ≤ blocks + 1) × ((i p v g j : List ℕ) → turned p v g j r ≡ after i (out p v g j m) (repeatBlock a bias blocks)) ⌝ }
+{
+    let jumped = machine::state::jump(m, a);
+    go_on(jumped, bias, blocks)
+}
+
+// By the block's count, which is now n: closed at 0, else once more from a.
+fn block_turn(
+    pad: &mut [u8],
+    journal: &mut [u32],
+    m: Now,
+    n: u8,
+    p: u8,
+    a: u16,
+    bias: u8,
+    blocks: u16,
+) -> Turn
+    requires { ⌜ (length (now pad) ≡ 256) × (0 < blocks) ⌝ }
+    ensures { λ r. ⌜ (r .blocks ≤ blocks + 1) × ((i v g : List ℕ) → turned (now (pad .exit)) v g (now (journal .exit)) r ≡ after i (out (now (pad .entry)) v g (now (journal .entry)) m) (blockTurn n p a bias blocks)) ⌝ }
+{
+    if n == 0 {
+        return close_block(pad, journal, m, p, bias, blocks);
+    }
+    repeat_block(m, a, bias, blocks)
+}
+
+// ---- ends
+
+fn end_inside(
+    image: &[u8],
+    pad: &mut [u8],
+    journal: &mut [u32],
+    m: Now,
+    bias: u8,
+    blocks: u16,
+) -> Turn
+    requires { ⌜ (length (now pad) ≡ 256) × (0 < blocks) ⌝ }
+    ensures { λ r. ⌜ (r .blocks ≤ blocks + 1) × ((v g : List ℕ) → turned (now (pad .exit)) v g (now (journal .exit)) r ≡ after (now (image .entry)) (out (now (pad .entry)) v g (now (journal .entry)) m) (endInside bias blocks)) ⌝ }
+{
+    let a = machine::grom::next_word(image, m);
+    let p = machine::pad::peek_pad(pad, a, POINTER);
+    let at = p.byte as usize;
+    let n = machine::pad::peek_pad(pad, p, at);
+    let up = std::num::wrapping_add_u8(n.byte, 1);
+    let stored = machine::pad::poke_pad(pad, journal, n, at, up);
+    block_turn(pad, journal, stored, up, p.byte, a.word, bias, blocks)
+}
+
+fn end_outside(pad: &mut [u8], journal: &mut [u32], m: Now) -> Turn
+    requires { ⌜ length (now pad) ≡ 256 ⌝ }
+    ensures { λ r. ⌜ (r .blocks ≡ 0) × ((i v g : List ℕ) → turned (now (pad .exit)) v g (now (journal .exit)) r ≡ after i (out (now (pad .entry)) v g (now (journal .entry)) m) endOutside) ⌝ }
+{
+    let settled = cursor::settle_cursor(pad, journal, m);
+    Turn {
+        now: settled,
+        going: false,
+        bias: 0,
+        blocks: 0,
+    }
+}
+
+fn end_code(
+    image: &[u8],
+    pad: &mut [u8],
+    journal: &mut [u32],
+    m: Now,
+    bias: u8,
+    blocks: u16,
+) -> Turn
+    requires { ⌜ length (now pad) ≡ 256 ⌝ }
+    ensures { λ r. ⌜ (r .blocks ≤ blocks + 1) × ((v g : List ℕ) → turned (now (pad .exit)) v g (now (journal .exit)) r ≡ after (now (image .entry)) (out (now (pad .entry)) v g (now (journal .entry)) m) (endCode bias blocks)) ⌝ }
+{
+    if blocks == 0 {
+        return end_outside(pad, journal, m);
+    }
+    end_inside(image, pad, journal, m, bias, blocks)
+}
+
+// ---- the bias
+
+fn grom_bias(image: &[u8], m: Now, blocks: u16) -> Turn
+    ensures { λ r. ⌜ (r .blocks ≤ blocks + 1) × ((p v g j : List ℕ) → turned p v g j r ≡ after (now (image .entry)) (out p v g j m) (gromBias blocks)) ⌝ }
+{
+    let b = machine::grom::next_byte(image, m);
+    go_on(b, b.byte, blocks)
+}
+
+fn operand_bias(image: &[u8], pad: &mut [u8], journal: &mut [u32], m: Now, blocks: u16) -> Turn
+    requires { ⌜ length (now pad) ≡ 256 ⌝ }
+    ensures { λ r. ⌜ (r .blocks ≤ blocks + 1) × ((v g : List ℕ) → turned (now (pad .exit)) v g (now (journal .exit)) r ≡ after (now (image .entry)) (out (now (pad .entry)) v g (now (journal .entry)) m) (operandBias blocks)) ⌝ }
+{
+    let a = text::cpu_operand(image, pad, journal, m);
+    let at = a.word as usize;
+    let b = machine::pad::peek_pad(pad, a, at);
+    go_on(b, b.byte, blocks)
+}
+
+// ---- any code
+
+// The low 5 bits and 1.
+fn count_of(c: u8) -> u16
+    ensures { λ r. ⌜ r ≡ count c ⌝ }
+{
+    let low = c % 32;
+    low as u16 + 1
+}
+
+// Text, below >80: a step of 1 goes across, one of 32 down.
+fn text_code(
+    image: &[u8],
+    pad: &mut [u8],
+    vram: &mut [u8],
+    journal: &mut [u32],
+    m: Now,
+    bias: u8,
+    blocks: u16,
+    c: u8,
+) -> Turn
+    requires { ⌜ (length (now pad) ≡ 256) × (length (now vram) ≡ 16384) ⌝ }
+    ensures { λ r. ⌜ (r .blocks ≤ blocks + 1) × ((g : List ℕ) → turned (now (pad .exit)) (now (vram .exit)) g (now (journal .exit)) r ≡ after (now (image .entry)) (out (now (pad .entry)) (now (vram .entry)) g (now (journal .entry)) m) (textCode bias blocks c)) ⌝ }
+{
+    let n = count_of(c);
+    if c < 0x20 {
+        let across = text::text(image, pad, vram, journal, m, n, 1, bias);
+        return go_on(across, bias, blocks);
+    }
+    if c < 0x40 {
+        let down = text::text(image, pad, vram, journal, m, n, 32, bias);
+        return go_on(down, bias, blocks);
+    }
+    if c < 0x60 {
+        let across = text::repeat_text(image, pad, vram, journal, m, n, 1, bias);
+        return go_on(across, bias, blocks);
+    }
+    let down = text::repeat_text(image, pad, vram, journal, m, n, 32, bias);
+    go_on(down, bias, blocks)
+}
+
+// A code from >C0 up.
+fn high_code(
+    image: &[u8],
+    pad: &mut [u8],
+    vram: &mut [u8],
+    journal: &mut [u32],
+    m: Now,
+    bias: u8,
+    blocks: u16,
+    c: u8,
+) -> Turn
+    requires { ⌜ (length (now pad) ≡ 256) × (length (now vram) ≡ 16384) × (blocks ≤ 16384) ⌝ }
+    ensures { λ r. ⌜ (r .blocks ≤ blocks + 1) × ((g : List ℕ) → turned (now (pad .exit)) (now (vram .exit)) g (now (journal .exit)) r ≡ after (now (image .entry)) (out (now (pad .entry)) (now (vram .entry)) g (now (journal .entry)) m) (highCode bias blocks c)) ⌝ }
+{
+    let n = count_of(c);
+    if c < 0xE0 {
+        return open_block(pad, journal, m, n, bias, blocks);
+    }
+    if c < 0xFB {
+        let shown = text::operand_text(image, pad, vram, journal, m, n, bias);
+        return go_on(shown, bias, blocks);
+    }
+    if c < 0xFC {
+        return end_code(image, pad, journal, m, bias, blocks);
+    }
+    if c < 0xFD {
+        return grom_bias(image, m, blocks);
+    }
+    if c < 0xFE {
+        return operand_bias(image, pad, journal, m, blocks);
+    }
+    if c < 0xFF {
+        let row = cursor::cursor_code(image, pad, journal, m, cursor::ROW);
+        return go_on(row, bias, blocks);
+    }
+    let column = cursor::cursor_code(image, pad, journal, m, cursor::COLUMN);
+    go_on(column, bias, blocks)
+}
+
+fn by_code(
+    image: &[u8],
+    pad: &mut [u8],
+    vram: &mut [u8],
+    journal: &mut [u32],
+    m: Now,
+    bias: u8,
+    blocks: u16,
+    c: u8,
+) -> Turn
+    requires { ⌜ (length (now pad) ≡ 256) × (length (now vram) ≡ 16384) × (blocks ≤ 16384) ⌝ }
+    ensures { λ r. ⌜ (r .blocks ≤ blocks + 1) × ((g : List ℕ) → turned (now (pad .exit)) (now (vram .exit)) g (now (journal .exit)) r ≡ after (now (image .entry)) (out (now (pad .entry)) (now (vram .entry)) g (now (journal .entry)) m) (codeRule bias blocks c)) ⌝ }
+{
+    let n = count_of(c);
+    if c < 0x80 {
+        return text_code(image, pad, vram, journal, m, bias, blocks, c);
+    }
+    if c < 0xA0 {
+        let across = cursor::skip(pad, journal, m, n);
+        return go_on(across, bias, blocks);
+    }
+    if c < 0xC0 {
+        let cells = n * 32;
+        let down = cursor::skip(pad, journal, m, cells);
+        return go_on(down, bias, blocks);
+    }
+    high_code(image, pad, vram, journal, m, bias, blocks, c)
+}
+
+fn code(
+    image: &[u8],
+    pad: &mut [u8],
+    vram: &mut [u8],
+    journal: &mut [u32],
+    m: Now,
+    bias: u8,
+    blocks: u16,
+) -> Turn
+    requires { ⌜ (length (now pad) ≡ 256) × (length (now vram) ≡ 16384) × (blocks ≤ 16384) ⌝ }
+    ensures { λ r. ⌜ (r .blocks ≤ blocks + 1) × ((g : List ℕ) → turned (now (pad .exit)) (now (vram .exit)) g (now (journal .exit)) r ≡ after (now (image .entry)) (out (now (pad .entry)) (now (vram .entry)) g (now (journal .entry)) m) (Format.code bias blocks)) ⌝ }
+{
+    let c = machine::grom::next_byte(image, m);
+    by_code(image, pad, vram, journal, c, bias, blocks, c.byte)
+}
+
+// At most 16,384 codes: the next is refused before it is read.
+pub fn format(image: &[u8], pad: &mut [u8], vram: &mut [u8], journal: &mut [u32], m: Now) -> Now
+    requires { ⌜ (length (now pad) ≡ 256) × (length (now vram) ≡ 16384) ⌝ }
+    ensures { λ r. ⌜ ((g : List ℕ) → out (now (pad .exit)) (now (vram .exit)) g (now (journal .exit)) r ≡ after (now (image .entry)) (out (now (pad .entry)) (now (vram .entry)) g (now (journal .entry)) m) fmtRule) ⌝ }
+{
+    let mut x = m;
+    let mut bias: u8 = 0;
+    let mut blocks: u16 = 0;
+    let mut left: u16 = MOST_CODES;
+    while 0 < left {
+        let t = code(image, pad, vram, journal, x, bias, blocks);
+        x = t.now;
+        if x.answer != 0 {
+            return x;
+        }
+        if !t.going {
+            return x;
+        }
+        bias = t.bias;
+        blocks = t.blocks;
+        left -= 1;
+    }
+    machine::state::need(x, false, TOO_LONG)
+}
