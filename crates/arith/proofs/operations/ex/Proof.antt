@@ -1,0 +1,81 @@
+-- Both operands with their values, then each one's value to the other.
+use mathlib.Core.Path.{_∙_}
+use Prim.Native.Nat.{ℕ}
+use Rattle.rules.specs.Rules.{_>>_}
+use Rattle.rules.specs.Operands.{Cell, result}
+use Rattle.rules.specs.Instructions.{exRule}
+use Rattle.rules.proofs.Laws.{seq}
+use Rattle.operand.specs.Places.{cellOf}
+use Rattle.arith.specs.Targets.{target}
+use borrow.Author.Needs.{needs}
+use Rattle.arith.proofs.operations.ex.Statement.{statement}
+use Rattle.arith.proofs.operations.ex.Tie as tie
+
+read-target-requires : tie.Need-read-target-requires
+read-target-requires c κs = search needs
+
+read-target-requires-2 : tie.Need-read-target-requires-2
+read-target-requires-2 c κs = search needs
+
+result-requires : tie.Need-result-requires
+result-requires c κs =
+    let at-read-target2 = c .before .before .before .before .before .before .before .before in
+    let at-read-target = at-read-target2 .before .before .before .before .before .before .before .before .before in
+    let start = at-read-target .before .before .before .before .before .before .before .before in
+    (at-read-target2 .read-target2 .kept .1 .0 ∙ at-read-target .read-target .kept .1 .0 ∙ start .pre .0, start .pre .1)
+
+result-requires-2 : tie.Need-result-requires-2
+result-requires-2 c κs =
+    let at-result = c .before .before .before .before .before .before .before .before .before in
+    let at-read-target2 = at-result .before .before .before .before .before .before .before .before .before in
+    let at-read-target = at-read-target2 .before .before .before .before .before .before .before .before .before in
+    let start = at-read-target .before .before .before .before .before .before .before .before in (
+      at-result .result .kept .0 ∙ at-read-target2 .read-target2 .kept .1 .0 ∙ at-read-target .read-target .kept .1 .0 ∙ start .pre .0,
+      at-result .result .kept .1 .0 ∙ start .pre .1,
+    )
+
+same-length : tie.Need-same-length
+same-length c =
+    let at-result2 = c .before .before .before .before .before .before in
+    let at-result = at-result2 .before .before .before .before .before .before .before .before .before .before in
+    let at-read-target2 = at-result .before .before .before .before .before .before .before .before .before in
+    let at-read-target = at-read-target2 .before .before .before .before .before .before .before .before .before in
+    at-result2 .result2 .kept .0 ∙ at-result .result .kept .0 ∙ at-read-target2 .read-target2 .kept .1 .0 ∙ at-read-target .read-target .kept .1 .0
+
+same-length-2 : tie.Need-same-length-2
+same-length-2 c = search needs
+
+same-length-3 : tie.Need-same-length-3
+same-length-3 c =
+    let at-result2 = c .before .before .before .before .before .before in
+    let at-result = at-result2 .before .before .before .before .before .before .before .before .before .before in
+    let at-read-target2 = at-result .before .before .before .before .before .before .before .before .before in
+    let at-read-target = at-read-target2 .before .before .before .before .before .before .before .before .before in
+    at-result2 .result2 .kept .1 .1 .0 ∙ at-result .result .kept .1 .1 .0 ∙ at-read-target2 .read-target2 .kept .1 .1 .1 .0 ∙ at-read-target .read-target .kept .1 .1 .1 .0
+
+returns : tie.Need-returns
+unfolding exRule
+returns c =
+    let at-result2 = c .before .before .before .before .before .before in
+    let at-result = at-result2 .before .before .before .before .before .before .before .before .before .before in
+    let at-read-target2 = at-result .before .before .before .before .before .before .before .before .before in
+    let at-read-target = at-read-target2 .before .before .before .before .before .before .before .before .before in
+    let start = at-read-target .before .before .before .before .before .before .before .before in
+    let w = start .args .wide in
+    let one = at-read-target .read-target .result in
+    λ g. seq _ _ _ _ _ _ (at-result .result .ensures _ g) (at-result2 .result2 .ensures _ g)
+    ∙ at-read-target2 .read-target2 .ensures .2 g (λ (y : Cell) (b : ℕ). result w (cellOf (one .place)) b >> result w y (one .now .word))
+    ∙ at-read-target .read-target .ensures .2 g (λ (x : Cell) (a : ℕ). target w (λ y b. result w x b >> result w y a))
+
+pub ex-spec : {M : Type 1} → statement M
+ex-spec =
+    tie.close
+    (tie.spec
+    read-target-requires
+    read-target-requires-2
+    result-requires
+    result-requires-2
+    same-length
+    same-length-2
+    same-length-3
+    returns)

@@ -1,0 +1,67 @@
+-- The destination and its value, the source, then what the operation stores.
+use mathlib.Core.Path.{_∙_}
+use Prim.Native.Nat.{ℕ}
+use Rattle.rules.specs.Rules.{_>>=_}
+use Rattle.rules.specs.Operands.{Cell, source}
+use Rattle.rules.specs.Arithmetic.{twoEffect}
+use Rattle.rules.specs.Instructions.{storeEffect, twoRule}
+use Rattle.rules.proofs.Laws.{bind, via}
+use Rattle.arith.specs.Effects.{twoOf}
+use borrow.Author.Needs.{needs}
+use Rattle.arith.proofs.operations.two.Statement.{statement}
+use Rattle.arith.proofs.operations.two.Tie as tie
+
+read-target-requires : tie.Need-read-target-requires
+read-target-requires c κs = search needs
+
+source-requires : tie.Need-source-requires
+source-requires c κs = search needs
+
+two-effect-requires : tie.Need-two-effect-requires
+two-effect-requires c κs = search needs
+
+store-effect-requires : tie.Need-store-effect-requires
+store-effect-requires c κs =
+    let at-source = c .before .before .before .before .before .before .before .before in
+    let at-read-target = at-source .before .before .before .before .before .before .before .before .before in
+    let start = at-read-target .before .before .before .before .before .before .before .before in
+    (at-source .source .kept .1 .0 ∙ at-read-target .read-target .kept .1 .0 ∙ start .pre .0, start .pre .1)
+
+same-length : tie.Need-same-length
+same-length c =
+    let at-store-effect = c .before .before .before .before .before .before in
+    let at-source = at-store-effect .before .before .before .before .before .before .before .before .before in
+    let at-read-target = at-source .before .before .before .before .before .before .before .before .before in
+    at-store-effect .store-effect .kept .0 ∙ at-source .source .kept .1 .0 ∙ at-read-target .read-target .kept .1 .0
+
+same-length-2 : tie.Need-same-length-2
+same-length-2 c = search needs
+
+same-length-3 : tie.Need-same-length-3
+same-length-3 c = search needs
+
+returns : tie.Need-returns
+unfolding twoRule
+returns c =
+    let at-store-effect = c .before .before .before .before .before .before in
+    let at-two-effect = at-store-effect .before .before .before .before in
+    let at-source = at-two-effect .before .before .before .before .before in
+    let at-read-target = at-source .before .before .before .before .before .before .before .before .before in
+    let start = at-read-target .before .before .before .before .before .before .before .before in
+    let w = start .args .wide in
+    let op = twoOf (start .args .op) in
+    λ g. bind _ _ _ _ _ _ _ (at-source .source .ensures .1 g) (via _ _ _ (storeEffect w _) _ _ (at-two-effect .two-effect .ensures) (at-store-effect .store-effect .ensures _ g))
+    ∙ at-read-target .read-target .ensures .2 g (λ (x : Cell) (a : ℕ). source (start .args .imm) w >>= (λ b. storeEffect w x (twoEffect op w a b)))
+
+pub two-spec : {M : Type 1} → statement M
+two-spec =
+    tie.close
+    (tie.spec
+    read-target-requires
+    source-requires
+    two-effect-requires
+    store-effect-requires
+    same-length
+    same-length-2
+    same-length-3
+    returns)

@@ -1,0 +1,104 @@
+-- The destination and its value, the source, the status, the low half, then the quotient and the rest.
+use mathlib.Core.Path.{_∙_}
+use Prim.Native.Nat.{ℕ}
+use Rattle.rules.specs.Machine.{cpu, status}
+use Rattle.rules.specs.Rules.{_>>=_, _>>_, poke}
+use Rattle.rules.specs.Operands.{Cell, byteCount, past, source, standing}
+use Rattle.rules.specs.Instructions.{divStatus, divided, divRule}
+use Rattle.rules.proofs.Laws.{bind, seq, via}
+use borrow.Author.Needs.{needs}
+use Rattle.arith.proofs.products.div.Statement.{statement}
+use Rattle.arith.proofs.products.div.Tie as tie
+
+read-target-requires : tie.Need-read-target-requires
+read-target-requires c κs = search needs
+
+source-requires : tie.Need-source-requires
+source-requires c κs = search needs
+
+div-status-requires : tie.Need-div-status-requires
+div-status-requires c κs = search needs
+
+poke-pad-requires : tie.Need-poke-pad-requires
+poke-pad-requires c κs =
+    let at-source = c .before .before .before .before .before .before .before in
+    let at-read-target = at-source .before .before .before .before .before .before .before .before .before in
+    let start = at-read-target .before .before .before .before .before .before .before .before in
+    at-source .source .kept .1 .0 ∙ at-read-target .read-target .kept .1 .0 ∙ start .pre .0
+
+low-half-requires : tie.Need-low-half-requires
+low-half-requires c κs = search needs
+
+standing-requires : tie.Need-standing-requires
+standing-requires c κs =
+    let at-poke-pad = c .before .before .before .before .before .before .before in
+    let at-source = at-poke-pad .before .before .before .before .before .before .before .before in
+    let at-read-target = at-source .before .before .before .before .before .before .before .before .before in
+    let start = at-read-target .before .before .before .before .before .before .before .before in
+    (at-poke-pad .poke-pad .kept .0 ∙ at-source .source .kept .1 .0 ∙ at-read-target .read-target .kept .1 .0 ∙ start .pre .0, start .pre .1)
+
+divided-requires : tie.Need-divided-requires
+divided-requires c κs =
+    let at-poke-pad = c .before .before .before .before .before .before .before .before .before .before .before in
+    let at-source = at-poke-pad .before .before .before .before .before .before .before .before in
+    let at-read-target = at-source .before .before .before .before .before .before .before .before .before in
+    let start = at-read-target .before .before .before .before .before .before .before .before in (
+      at-poke-pad .poke-pad .kept .0 ∙ at-source .source .kept .1 .0 ∙ at-read-target .read-target .kept .1 .0 ∙ start .pre .0,
+      start .pre .1,
+      at-read-target .read-target .ensures .0,
+      at-source .source .ensures .0,
+      c .before .before .before .standing .ensures .0,
+    )
+
+same-length : tie.Need-same-length
+same-length c =
+    let at-divided = c .before .before .before .before .before .before in
+    let at-poke-pad = at-divided .before .before .before .before .before .before .before .before .before .before .before .before in
+    let at-source = at-poke-pad .before .before .before .before .before .before .before .before in
+    let at-read-target = at-source .before .before .before .before .before .before .before .before .before in
+    at-divided .divided .kept .0 ∙ at-poke-pad .poke-pad .kept .0 ∙ at-source .source .kept .1 .0 ∙ at-read-target .read-target .kept .1 .0
+
+same-length-2 : tie.Need-same-length-2
+same-length-2 c = search needs
+
+same-length-3 : tie.Need-same-length-3
+same-length-3 c =
+    let at-divided = c .before .before .before .before .before .before in
+    let at-poke-pad = at-divided .before .before .before .before .before .before .before .before .before .before .before .before in
+    let at-source = at-poke-pad .before .before .before .before .before .before .before .before in
+    let at-read-target = at-source .before .before .before .before .before .before .before .before .before in
+    at-divided .divided .kept .1 .1 .0 ∙ at-poke-pad .poke-pad .kept .1 .0 ∙ at-source .source .kept .1 .1 .1 .0 ∙ at-read-target .read-target .kept .1 .1 .1 .0
+
+returns : tie.Need-returns
+unfolding divRule
+returns c =
+    let at-divided = c .before .before .before .before .before .before in
+    let at-standing = at-divided .before .before .before .before in
+    let at-low-half = at-standing .before in
+    let at-poke-pad = at-low-half .before .before .before .before .before .before .before in
+    let at-div-status = at-poke-pad .before in
+    let at-source = at-div-status .before .before .before .before .before .before .before in
+    let at-read-target = at-source .before .before .before .before .before .before .before .before .before in
+    let start = at-read-target .before .before .before .before .before .before .before .before in
+    let w = start .args .wide in
+    λ g. bind _ _ _ _ _ _ _ (at-source .source .ensures .1 g)
+    (seq _ _ _ _ _ _ (via _ _ _ (poke cpu status) _ _ (at-div-status .div-status .ensures .0) (at-poke-pad .poke-pad .ensures _ _ g))
+    (bind _ _ _ _ _ _ _ (via _ _ _ (standing w) _ _ (at-low-half .low-half .ensures) (at-standing .standing .ensures .1 _ g _)) (at-divided .divided .ensures _ g)))
+    ∙ at-read-target .read-target .ensures .2 g (λ (x : Cell) (upper : ℕ). source (start .args .imm) w >>= (λ b.
+    poke cpu status (divStatus w) >> (standing w (past (byteCount w) x) >>= (λ lower. divided w x upper lower b))))
+
+pub div-spec : {M : Type 1} → statement M
+div-spec =
+    tie.close
+    (tie.spec
+    read-target-requires
+    source-requires
+    div-status-requires
+    poke-pad-requires
+    low-half-requires
+    standing-requires
+    divided-requires
+    same-length
+    same-length-2
+    same-length-3
+    returns)

@@ -1,0 +1,57 @@
+-- The operand, its value, and then whatever goes on.
+use mathlib.Core.Path.{refl}
+use Rattle.rules.specs.Rules.{_>>=_}
+use Rattle.rules.specs.Operands.{Cell, operandOf, value}
+use Rattle.rules.proofs.Laws.{bind, via}
+use Rattle.operand.proofs.Reach.{with-place}
+use borrow.Author.Needs.{needs}
+use Rattle.arith.proofs.targets.read_target.Statement.{statement}
+use Rattle.arith.proofs.targets.read_target.Tie as tie
+
+byte-count-requires : tie.Need-byte-count-requires
+byte-count-requires c κs = search needs
+
+operand-requires : tie.Need-operand-requires
+operand-requires c κs = search needs
+
+now-of-requires : tie.Need-now-of-requires
+now-of-requires c κs = search needs
+
+place-of-requires : tie.Need-place-of-requires
+place-of-requires c κs = search needs
+
+value-requires : tie.Need-value-requires
+value-requires c κs = search needs
+
+same-length : tie.Need-same-length
+same-length c = search needs
+
+same-length-2 : tie.Need-same-length-2
+same-length-2 c = search needs
+
+returns : tie.Need-returns
+returns c =
+    let at-place-of = c .before .before .before .before .before .before .before in
+    let at-now-of = at-place-of .before in
+    let at-operand = at-now-of .before .before .before .before .before in
+    let at-byte-count = at-operand .before in
+    let start = at-byte-count .before .before .before .before .before .before .before in (
+      rw (at-place-of .place-of .ensures, ← at-byte-count .byte-count .ensures .0) (at-operand .operand .ensures .0),
+      c .before .before .before .before .value .ensures .0,
+      λ g f. with-place _ _ _ _ _ _ _ _ _ _ _ (λ (x : Cell). value (start .args .wide) x >>= f x)
+          (via _ _ _ operandOf _ _ (at-byte-count .byte-count .ensures .0) (at-operand .operand .ensures .1 _ g))
+          (at-now-of .now-of .ensures) (at-place-of .place-of .ensures) (bind _ _ _ _ _ _ (f _) (c .before .before .before .before .value .ensures .1 _ g) refl),
+    )
+
+pub read-target-spec : {M : Type 1} → statement M
+read-target-spec =
+    tie.close
+    (tie.spec
+    byte-count-requires
+    operand-requires
+    now-of-requires
+    place-of-requires
+    value-requires
+    same-length
+    same-length-2
+    returns)

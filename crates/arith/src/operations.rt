@@ -1,0 +1,107 @@
+// The instructions of one and two operands: the operands read, then what they store.
+use crate::effects;
+use crate::effects::Effect;
+use crate::effects::One;
+use crate::effects::Two;
+use crate::targets::read_target;
+use flow::status;
+use machine::pad as cpu;
+use machine::state::Now;
+use operand::places::Place;
+use operand::values;
+ghost use mathlib.Core.Path.{_≡_};
+ghost use mathlib.Core.List.{List};
+ghost use Prim.Native.Nat.{ℕ};
+ghost use lib.ListN.{length};
+ghost use Rattle.rules.specs.Rules.{after};
+ghost use Rattle.rules.specs.Instructions.{storeEffect, oneRule, twoRule, exRule};
+ghost use Rattle.machine.specs.Said.{out};
+ghost use Rattle.operand.specs.Places.{cellOf};
+ghost use Rattle.arith.specs.Effects.{oneOf, twoOf, effectOf};
+
+// Status first, then the result.
+fn store_effect(
+    pad: &mut [u8],
+    vram: &mut [u8],
+    journal: &mut [u32],
+    m: Now,
+    wide: bool,
+    place: Place,
+    e: Effect,
+) -> Now
+    requires { ⌜ (length (now pad) ≡ 256) × (length (now vram) ≡ 16384) ⌝ }
+    ensures { λ r. ⌜ ((i g : List ℕ) → out (now (pad .exit)) (now (vram .exit)) g (now (journal .exit)) r ≡ after i (out (now (pad .entry)) (now (vram .entry)) g (now (journal .entry)) m) (storeEffect wide (cellOf place) (effectOf e))) ⌝ }
+{
+    match e {
+        Effect::Both(s, v) => {
+            let flagged = cpu::poke_pad(pad, journal, m, status::STATUS, s);
+            values::result(pad, vram, journal, flagged, wide, place, v)
+        }
+        Effect::Only(v) => values::result(pad, vram, journal, m, wide, place, v),
+        Effect::Flags(s) => cpu::poke_pad(pad, journal, m, status::STATUS, s),
+        Effect::Condition(c) => status::set_condition(pad, journal, m, c),
+    }
+}
+
+pub fn one(
+    image: &[u8],
+    pad: &mut [u8],
+    vram: &mut [u8],
+    journal: &mut [u32],
+    m: Now,
+    op: One,
+    wide: bool,
+) -> Now
+    requires { ⌜ (length (now pad) ≡ 256) × (length (now vram) ≡ 16384) ⌝ }
+    ensures { λ r. ⌜ ((g : List ℕ) → out (now (pad .exit)) (now (vram .exit)) g (now (journal .exit)) r ≡ after (now (image .entry)) (out (now (pad .entry)) (now (vram .entry)) g (now (journal .entry)) m) (oneRule (oneOf op) wide)) ⌝ }
+{
+    let target = read_target(image, pad, vram, journal, m, wide);
+    let v = target.now;
+    let place = target.place;
+    let e = effects::one_effect(op, wide, v.word);
+    store_effect(pad, vram, journal, v, wide, place, e)
+}
+
+// The destination is read before the source.
+pub fn two(
+    image: &[u8],
+    pad: &mut [u8],
+    vram: &mut [u8],
+    journal: &mut [u32],
+    m: Now,
+    op: Two,
+    imm: bool,
+    wide: bool,
+) -> Now
+    requires { ⌜ (length (now pad) ≡ 256) × (length (now vram) ≡ 16384) ⌝ }
+    ensures { λ r. ⌜ ((g : List ℕ) → out (now (pad .exit)) (now (vram .exit)) g (now (journal .exit)) r ≡ after (now (image .entry)) (out (now (pad .entry)) (now (vram .entry)) g (now (journal .entry)) m) (twoRule (twoOf op) imm wide)) ⌝ }
+{
+    let target = read_target(image, pad, vram, journal, m, wide);
+    let a = target.now;
+    let place = target.place;
+    let b = values::source(image, pad, vram, journal, a, imm, wide);
+    let e = effects::two_effect(op, wide, a.word, b.word);
+    store_effect(pad, vram, journal, b, wide, place, e)
+}
+
+// Each operand gets the other's value, the destination first.
+pub fn ex(
+    image: &[u8],
+    pad: &mut [u8],
+    vram: &mut [u8],
+    journal: &mut [u32],
+    m: Now,
+    wide: bool,
+) -> Now
+    requires { ⌜ (length (now pad) ≡ 256) × (length (now vram) ≡ 16384) ⌝ }
+    ensures { λ r. ⌜ ((g : List ℕ) → out (now (pad .exit)) (now (vram .exit)) g (now (journal .exit)) r ≡ after (now (image .entry)) (out (now (pad .entry)) (now (vram .entry)) g (now (journal .entry)) m) (exRule wide)) ⌝ }
+{
+    let target = read_target(image, pad, vram, journal, m, wide);
+    let a = target.now;
+    let place = target.place;
+    let other = read_target(image, pad, vram, journal, a, wide);
+    let b = other.now;
+    let other_place = other.place;
+    let first = values::result(pad, vram, journal, b, wide, place, b.word);
+    values::result(pad, vram, journal, first, wide, other_place, a.word)
+}

@@ -1,0 +1,150 @@
+// MUL and DIV: the destination is a number of two widths, its high half first.
+use crate::targets::read_target;
+use flow::status;
+use machine::pad as cpu;
+use machine::state::Now;
+use number::products;
+use number::products::Halves;
+use operand::places;
+use operand::places::Place;
+use operand::values;
+ghost use mathlib.Core.Path.{_≡_};
+ghost use mathlib.Core.List.{List};
+ghost use Prim.Native.Nat.{ℕ, _+_, _≤_, _<_};
+ghost use lib.ListN.{length};
+ghost use Rattle.rules.specs.Rules.{after};
+ghost use Rattle.rules.specs.Arithmetic.{half, span};
+ghost use Rattle.rules.specs.Operands.{byteCount, past};
+ghost use Rattle.rules.specs.Instructions;
+ghost use Rattle.rules.specs.Instructions.{mulRule, divStatus, divOverflow, divRule};
+ghost use Rattle.machine.specs.Said.{out};
+ghost use Rattle.operand.specs.Places.{cellOf};
+ghost use Rattle.arith.specs.Halves.{halves};
+
+// The place of the low half.
+fn low_half(wide: bool, place: Place) -> Place
+    requires { ⌜ cellOf place .at + byteCount wide ≤ 16384 ⌝ }
+    ensures { λ r. ⌜ cellOf r ≡ past (byteCount wide) (cellOf place) ⌝ }
+{
+    let n = values::byte_count(wide) as u16;
+    places::beyond(place, n)
+}
+
+// Two results, the second in the low half's place.
+fn store_halves(
+    pad: &mut [u8],
+    vram: &mut [u8],
+    journal: &mut [u32],
+    m: Now,
+    wide: bool,
+    place: Place,
+    h: Halves,
+) -> Now
+    requires { ⌜ (length (now pad) ≡ 256) × (length (now vram) ≡ 16384) × (cellOf place .at + byteCount wide ≤ 16384) ⌝ }
+    ensures { λ r. ⌜ ((i g : List ℕ) → out (now (pad .exit)) (now (vram .exit)) g (now (journal .exit)) r ≡ after i (out (now (pad .entry)) (now (vram .entry)) g (now (journal .entry)) m) (halves wide (cellOf place) (h .high) (h .low))) ⌝ }
+{
+    let first = values::result(pad, vram, journal, m, wide, place, h.high);
+    values::result(
+        pad,
+        vram,
+        journal,
+        first,
+        wide,
+        low_half(wide, place),
+        h.low,
+    )
+}
+
+pub fn mul(
+    image: &[u8],
+    pad: &mut [u8],
+    vram: &mut [u8],
+    journal: &mut [u32],
+    m: Now,
+    imm: bool,
+    wide: bool,
+) -> Now
+    requires { ⌜ (length (now pad) ≡ 256) × (length (now vram) ≡ 16384) ⌝ }
+    ensures { λ r. ⌜ ((g : List ℕ) → out (now (pad .exit)) (now (vram .exit)) g (now (journal .exit)) r ≡ after (now (image .entry)) (out (now (pad .entry)) (now (vram .entry)) g (now (journal .entry)) m) (mulRule imm wide)) ⌝ }
+{
+    let target = read_target(image, pad, vram, journal, m, wide);
+    let a = target.now;
+    let place = target.place;
+    let b = values::source(image, pad, vram, journal, a, imm, wide);
+    let h = products::times(wide, a.word, b.word);
+    store_halves(pad, vram, journal, b, wide, place, h)
+}
+
+// ---- DIV
+
+const OVERFLOW: u8 = 0x08;
+
+// What DIV stores as status before it divides.
+fn div_status(wide: bool) -> u8
+    ensures { λ r. ⌜ (r ≡ divStatus wide) × (r ≤ 1) ⌝ }
+{
+    if wide { 1 } else { 0 }
+}
+
+// The status again, with the overflow bit.
+fn div_overflow(pad: &mut [u8], journal: &mut [u32], m: Now, wide: bool) -> Now
+    requires { ⌜ length (now pad) ≡ 256 ⌝ }
+    ensures { λ r. ⌜ ((i v g : List ℕ) → out (now (pad .exit)) v g (now (journal .exit)) r ≡ after i (out (now (pad .entry)) v g (now (journal .entry)) m) (divOverflow wide)) ⌝ }
+{
+    let s = div_status(wide) + OVERFLOW;
+    cpu::poke_pad(pad, journal, m, status::STATUS, s)
+}
+
+// The quotient must be of one width: the high half must be below the divisor.
+fn divided(
+    pad: &mut [u8],
+    vram: &mut [u8],
+    journal: &mut [u32],
+    m: Now,
+    wide: bool,
+    place: Place,
+    upper: u16,
+    lower: u16,
+    b: u16,
+) -> Now
+    requires { ⌜ (length (now pad) ≡ 256) × (length (now vram) ≡ 16384) × (cellOf place .at + byteCount wide ≤ 16384) × (b < span (half wide)) × (lower < span (half wide)) ⌝ }
+    ensures { λ r. ⌜ ((i g : List ℕ) → out (now (pad .exit)) (now (vram .exit)) g (now (journal .exit)) r ≡ after i (out (now (pad .entry)) (now (vram .entry)) g (now (journal .entry)) m) (Instructions.divided wide (cellOf place) upper lower b)) ⌝ }
+{
+    if b <= upper {
+        return div_overflow(pad, journal, m, wide);
+    }
+    let h = products::divide(wide, upper, lower, b);
+    store_halves(pad, vram, journal, m, wide, place, h)
+}
+
+// The status is stored before the low half is read.
+pub fn div(
+    image: &[u8],
+    pad: &mut [u8],
+    vram: &mut [u8],
+    journal: &mut [u32],
+    m: Now,
+    imm: bool,
+    wide: bool,
+) -> Now
+    requires { ⌜ (length (now pad) ≡ 256) × (length (now vram) ≡ 16384) ⌝ }
+    ensures { λ r. ⌜ ((g : List ℕ) → out (now (pad .exit)) (now (vram .exit)) g (now (journal .exit)) r ≡ after (now (image .entry)) (out (now (pad .entry)) (now (vram .entry)) g (now (journal .entry)) m) (divRule imm wide)) ⌝ }
+{
+    let target = read_target(image, pad, vram, journal, m, wide);
+    let upper = target.now;
+    let place = target.place;
+    let b = values::source(image, pad, vram, journal, upper, imm, wide);
+    let flagged = cpu::poke_pad(pad, journal, b, status::STATUS, div_status(wide));
+    let lower = values::standing(pad, vram, flagged, wide, low_half(wide, place));
+    divided(
+        pad,
+        vram,
+        journal,
+        lower,
+        wide,
+        place,
+        upper.word,
+        lower.word,
+        b.word,
+    )
+}
