@@ -63,7 +63,8 @@ pop-pc-requires c κs =
     let at-move-target = at-move-source .before .before .before .before .before .before .before in
     let at-source = at-move-target .before .before .before .before .before .before .before in
     let start = at-source .before .before .before .before .before .before .before .before .before .before .before .before .before in
-    at-move-bytes .move-bytes .kept .1 .0 ∙ at-push-pc .push-pc .kept .0 ∙ at-move-source .move-source .kept .1 .0 ∙ at-move-target .move-target .kept .1 .0 ∙ at-source .source .kept .1 .0 ∙ start .pre .0
+    at-move-bytes .move-bytes .kept .1 .0 ∙ at-push-pc .push-pc .kept .0 ∙ at-move-source .move-source .kept .1 .0 ∙ at-move-target .move-target .kept .1 .0
+    ∙ at-source .source .kept .1 .0 ∙ start .pre .0
 
 same-length : tie.Need-same-length
 same-length c =
@@ -72,7 +73,8 @@ same-length c =
     let at-move-source = at-push-pc .before .before .before .before .before .before .before in
     let at-move-target = at-move-source .before .before .before .before .before .before .before in
     let at-source = at-move-target .before .before .before .before .before .before .before in
-    c .before .before .before .before .pop-pc .kept .0 ∙ at-move-bytes .move-bytes .kept .1 .0 ∙ at-push-pc .push-pc .kept .0 ∙ at-move-source .move-source .kept .1 .0 ∙ at-move-target .move-target .kept .1 .0 ∙ at-source .source .kept .1 .0
+    c .before .before .before .before .pop-pc .kept .0 ∙ at-move-bytes .move-bytes .kept .1 .0 ∙ at-push-pc .push-pc .kept .0 ∙ at-move-source .move-source .kept .1 .0
+    ∙ at-move-target .move-target .kept .1 .0 ∙ at-source .source .kept .1 .0
 
 same-length-2 : tie.Need-same-length-2
 same-length-2 c = search needs
@@ -107,7 +109,8 @@ returns c =
     (bind _ _ _ _ _ _ _ (via _ _ _ moveTarget _ _ (at-bit4 .bit4 .ensures) (at-move-target .move-target .ensures _ _))
     (bind _ _ _ _ _ _ _ (via₂ _ _ _ moveSource _ _ _ _ (at-bit3 .bit3 .ensures) (at-bit2 .bit2 .ensures) (at-move-source .move-source .ensures _ _))
     (seq _ _ _ _ _ _ (at-push-pc .push-pc .ensures _ _ _)
-    (seq _ _ _ _ _ _ (via _ _ _ (λ (n : ℕ). moveBytes n 0 (originOf (at-move-source .move-source .result .origin)) (targetOf (at-move-target .move-target .result .target))) _ _ (at-move-count .move-count .ensures) (at-move-bytes .move-bytes .ensures))
+    (seq _ _ _ _ _ _ (via _ _ _ (λ (n : ℕ). moveBytes n 0 (originOf (at-move-source .move-source .result .origin)) (targetOf (at-move-target .move-target .result .target))) _ _
+    (at-move-count .move-count .ensures) (at-move-bytes .move-bytes .ensures))
     (c .before .before .before .before .pop-pc .ensures _ _ _)))))
 
 pub move-block-spec : {M : Type 1} → statement M

@@ -36,7 +36,8 @@ cast-pc : tie.Need-cast-pc Inv-loop μ-loop
 cast-pc c = search needs
 
 returns : tie.Need-returns Inv-loop μ-loop
-returns c = scan-mark _ _ _ _ (c .before .before .before .before .loop .inv .0) _ _ (c .before .before .before .loop-test .taken) (c .before .before .before .before .loop .inv .1) refl (sym (c .before .marks .ensures) ∙ c .if1 .taken) refl
+returns c = scan-mark _ _ _ _ (c .before .before .before .before .loop .inv .0) _ _ (c .before .before .before .loop-test .taken)
+    (c .before .before .before .before .loop .inv .1) refl (sym (c .before .marks .ensures) ∙ c .if1 .taken) refl
 
 names-cell-requires : tie.Need-names-cell-requires Inv-loop μ-loop
 names-cell-requires c κs = search needs
@@ -55,7 +56,8 @@ loop-again : tie.Need-loop-again Inv-loop μ-loop
 loop-again c =
     let at-loop-test = c .before .before .before .before .before in
     let at-loop = at-loop-test .before in (
-      scan-on _ _ _ _ (at-loop .loop .inv .0) _ (at-loop-test .loop-test .taken) (at-loop .loop .inv .1) refl (sym (c .before .names-cell .ensures) ∙ granted (c .before .names-cell .result) (c .if2 .left)),
+      scan-on _ _ _ _ (at-loop .loop .inv .0) _ (at-loop-test .loop-test .taken) (at-loop .loop .inv .1) refl (sym (c .before .names-cell .ensures) ∙ granted
+          (c .before .names-cell .result) (c .if2 .left)),
       omega arith,
     )
 

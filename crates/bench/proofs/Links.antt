@@ -1,0 +1,88 @@
+-- The public calls in the code's words: one law for each way out of them.
+use mathlib.Core.Path.{_≡_, refl, _∙_, ap, sym}
+use mathlib.Core.Bool.{Bool, true, false}
+use mathlib.Core.List.{List, []}
+use Prim.Native.Nat.{ℕ, _+_, _-_, _≤_}
+use native.Mathlib.Omega.{arith}
+use lib.Dec.{eqb, leb}
+use lib.ListN.{length, take, drop}
+use borrow.Author.Tests.{ne-eqb, eq-eqb, leb-true, leb-false, eqb-true}
+use Rattle.rules.specs.Machine.{pick, _also_, cpu, vdp, register, size, reach, Mem, state}
+use Rattle.rules.specs.Journal.{undo}
+use Rattle.rules.specs.Calls.{partsFit, memFits, Find, scan, backTo, fitBack, stepBack, Memory, kindOf, viewed, view}
+use Rattle.rules.proofs.Fits.{both}
+use Rattle.machine.specs.Said.{foundAt}
+use Rattle.bench.specs.Told.{Outcome, outcome, replies, part}
+
+-- ---- a step back
+
+pub back-lost : (pc n q : ℕ) (m : Mem) → foundAt n q ≡ scan (m .used) (m .journal) → n ≡ 0 → outcome (replies 12 pc m) 0 ≡ outcome (fitBack (state pc m)) 0
+unfolding fitBack replies foundAt
+back-lost pc n q m e h = ap (λ (f : Find). outcome (backTo f (state pc m)) 0) (rw h at e)
+
+pub back-found : (pc n q : ℕ) (m m′ : Mem) → foundAt n q ≡ scan (m .used) (m .journal) → (n ≡ 0 → ⊥) → m′ ≡ undo n m
+    → outcome (replies 0 q m′) 0 ≡ outcome (fitBack (state pc m)) 0
+unfolding fitBack replies foundAt
+back-found pc n q m m′ e h k = rw k (ap (λ (f : Find). outcome (backTo f (state pc m)) 0) (rw (ne-eqb n 0 h) at e))
+
+module _ (pc : ℕ) (m : Mem) (t : Bool) (e : t ≡ memFits m) where
+  pub back-unfit : t ≡ false → outcome (replies 11 pc m) 0 ≡ outcome (stepBack (state pc m)) 0
+  unfolding stepBack replies
+  back-unfit h = rw (sym e ∙ h)
+
+  pub back-fits : t ≡ true → (o : Outcome) → o ≡ outcome (fitBack (state pc m)) 0 → o ≡ outcome (stepBack (state pc m)) 0
+  unfolding stepBack
+  back-fits h o k = rw (sym e ∙ h) k
+
+-- what test 11 says of the lengths
+pub record Fitting (p v g j u : ℕ) : Type 0 where
+  pub pad : p ≡ 256
+  pub vram : v ≡ 16384
+  pub regs : g ≡ 8
+  pub used : u ≤ j
+
+pub fitting : (p v g j u : ℕ) → partsFit p v g j u ≡ true → Fitting p v g j u
+unfolding partsFit
+fitting p v g j u h =
+    let pads : (eqb p (size cpu) ≡ true) × _ = both h in
+    let vrams : (eqb v (size vdp) ≡ true) × _ = both (pads .1) in
+    let regss : (eqb g (size register) ≡ true) × _ = both (vrams .1) in
+    record { pad = eqb-true _ _ (pads .0); vram = eqb-true _ _ (vrams .0); regs = eqb-true _ _ (regss .0); used = leb-true _ _ (both (regss .1) .1) }
+
+-- ---- the viewer
+
+-- a sum within the reach, by a difference
+split : (at len r : ℕ) → pick (leb at r) (leb len (r - at)) false ≡ leb (at + len) r
+split at len r = go (leb at r) refl (leb len (r - at)) refl (leb (at + len) r) refl
+  where
+    go : (a : Bool) → leb at r ≡ a → (b : Bool) → leb len (r - at) ≡ b → (c : Bool) → leb (at + len) r ≡ c → pick a b false ≡ c
+    go true ea true eb true ec = refl
+    go true ea true eb false ec = absurd (omega (arith, leb-true at r ea, leb-true len (r - at) eb, leb-false (at + len) r ec))
+    go true ea false eb true ec = absurd (omega (arith, leb-true at r ea, leb-false len (r - at) eb, leb-true (at + len) r ec))
+    go true ea false eb false ec = refl
+    go false ea true eb true ec = absurd (omega (arith, leb-false at r ea, leb-true (at + len) r ec))
+    go false ea true eb false ec = refl
+    go false ea false eb true ec = absurd (omega (arith, leb-false at r ea, leb-true (at + len) r ec))
+    go false ea false eb false ec = refl
+
+nested : (a b : Bool) (x : List ℕ) → pick a (pick b x []) [] ≡ pick (pick a b false) x []
+nested true b x = refl
+nested false b x = refl
+
+pub part-is : (r : ℕ) (xs : List ℕ) (at len : ℕ) → part r xs at len ≡ pick (leb (at + len) r) (take len (drop at xs)) []
+unfolding part
+part-is r xs at len =
+    nested (leb at r) (leb len (r - at)) (take len (drop at xs)) ∙ ap (λ (c : Bool). pick c (take len (drop at xs)) []) (split at len r)
+
+pub view-part : (w : Memory) (p v : List ℕ) (at len : ℕ) (s : List ℕ) → length p ≡ 256 → length v ≡ 16384 → s ≡ part (reach (kindOf w)) (viewed w p v) at len
+    → s ≡ view w p v at len
+unfolding view _also_
+view-part w p v at len s h k e = rw (eq-eqb _ _ h, eq-eqb _ _ k) (e ∙ part-is (reach (kindOf w)) (viewed w p v) at len)
+
+pub view-pad : (w : Memory) (p v : List ℕ) (at len : ℕ) → (length p ≡ 256 → ⊥) → [] ≡ view w p v at len
+unfolding view _also_
+view-pad w p v at len h = rw (ne-eqb _ _ h)
+
+pub view-vram : (w : Memory) (p v : List ℕ) (at len : ℕ) → length p ≡ 256 → (length v ≡ 16384 → ⊥) → [] ≡ view w p v at len
+unfolding view _also_
+view-vram w p v at len h k = rw (eq-eqb _ _ h, ne-eqb _ _ k)

@@ -1,0 +1,46 @@
+-- What the public calls' results say, in the words of the rules.
+use mathlib.Core.List.{List, []}
+use Prim.Native.Nat.{ℕ, _-_}
+use lib.Dec.{eqb, leb}
+use lib.ListN.{length, take, drop}
+use Rattle.rules.specs.Machine.{pick, Mem, mem, State, state}
+use Rattle.rules.specs.Journal.{Store, blanked}
+use Rattle.rules.specs.Rules.{Out, got, stopped}
+use Rattle.rules.specs.Calls as calls
+use Rattle.bench.specs.declared.walk.Reply as walk
+use Rattle.bench.specs.declared.viewer.Memory.{Memory}
+use Rattle.bench.specs.declared.viewer.Memory.the-variants.{Cpu, Vdp}
+
+-- ---- a step or a step back: a reply of the rules, and the number of byte stores
+
+pub record Outcome : Type 0 where
+  pub reply : calls.Reply
+  pub stores : ℕ
+
+abbrev pub outcome : calls.Reply → ℕ → Outcome
+outcome r n = record { reply = r; stores = n }
+
+-- an answer of 0 is a call that was done; any other is a refusal by that number
+unfoldable pub replies : ℕ → ℕ → Mem → calls.Reply
+replies a pc m = pick (eqb a 0) (calls.done (state pc m)) (calls.refused a (state pc m))
+
+-- beside pad, VDP RAM, registers and journal
+abbrev pub told : List ℕ → List ℕ → List ℕ → List ℕ → walk.Reply → Outcome
+told p v g j r = outcome (replies (r .answer) (r .pc) (mem p v g j (r .used))) (r .stores)
+
+-- ---- the viewer
+
+abbrev pub memoryOf : Memory → calls.Memory
+memoryOf Cpu = calls.cpuRam
+memoryOf Vdp = calls.vdpRam
+
+-- len bytes from an address on, of the first `reach`
+unfoldable pub part : ℕ → List ℕ → ℕ → ℕ → List ℕ
+part reach xs at len = pick (leb at reach) (pick (leb len (reach - at)) (take len (drop at xs)) []) []
+
+-- ---- a step
+
+-- how an attempt is settled, with the number of its stores: "A refused step puts all back", and reports none
+abbrev pub settled : State → Out (Unit {0}) → List Store → Outcome
+settled s (got a pc m) ss = outcome (calls.done (state pc m)) (length ss)
+settled s (stopped n m) ss = outcome (calls.refused n (state (s .pc) (blanked (m .used - s .mem .used) (s .mem)))) 0

@@ -1,0 +1,4 @@
+// The public calls: step, run, step_back and view.
+pub mod fits;
+pub mod viewer;
+pub mod walk;

@@ -1,0 +1,504 @@
+-- By the task: each arm's instruction follows its rule.
+use Rattle.rules.specs.Tasks.{ruleOf}
+use borrow.Author.Needs.{needs}
+use Rattle.opcode.proofs.task.perform.Statement.{statement}
+use Rattle.opcode.proofs.task.perform.Tie as tie
+
+enum-told : tie.Need-enum-told
+enum-told c = search needs
+
+rtn-requires : tie.Need-rtn-requires
+rtn-requires c κs = search needs
+
+enum-told-2 : tie.Need-enum-told-2
+enum-told-2 c = search needs
+
+rtnc-requires : tie.Need-rtnc-requires
+rtnc-requires c κs = search needs
+
+enum-told-3 : tie.Need-enum-told-3
+enum-told-3 c = search needs
+
+rand-requires : tie.Need-rand-requires
+rand-requires c κs = search needs
+
+enum-told-4 : tie.Need-enum-told-4
+enum-told-4 c = search needs
+
+back-requires : tie.Need-back-requires
+back-requires c κs = search needs
+
+enum-told-5 : tie.Need-enum-told-5
+enum-told-5 c = search needs
+
+long-requires : tie.Need-long-requires
+long-requires c κs = search needs
+
+enum-told-6 : tie.Need-enum-told-6
+enum-told-6 c = search needs
+
+call-requires : tie.Need-call-requires
+call-requires c κs = search needs
+
+enum-told-7 : tie.Need-enum-told-7
+enum-told-7 c = search needs
+
+all-requires : tie.Need-all-requires
+all-requires c κs = search needs
+
+enum-told-8 : tie.Need-enum-told-8
+enum-told-8 c = search needs
+
+format-requires : tie.Need-format-requires
+format-requires c κs = search needs
+
+enum-known-task : tie.Need-enum-known-task
+enum-known-task c = search needs
+
+test-status-requires : tie.Need-test-status-requires
+test-status-requires c κs = search needs
+
+enum-known-task-2 : tie.Need-enum-known-task-2
+enum-known-task-2 c = search needs
+
+move-block-requires : tie.Need-move-block-requires
+move-block-requires c κs = search needs
+
+enum-known-task-3 : tie.Need-enum-known-task-3
+enum-known-task-3 c = search needs
+
+branch-requires : tie.Need-branch-requires
+branch-requires c κs = search needs
+
+enum-known-task-4 : tie.Need-enum-known-task-4
+enum-known-task-4 c = search needs
+
+one-requires : tie.Need-one-requires
+one-requires c κs = search needs
+
+enum-known-task-5 : tie.Need-enum-known-task-5
+enum-known-task-5 c = search needs
+
+fetch-requires : tie.Need-fetch-requires
+fetch-requires c κs = search needs
+
+enum-known-task-6 : tie.Need-enum-known-task-6
+enum-known-task-6 c = search needs
+
+case-requires : tie.Need-case-requires
+case-requires c κs = search needs
+
+enum-known-task-7 : tie.Need-enum-known-task-7
+enum-known-task-7 c = search needs
+
+push-requires : tie.Need-push-requires
+push-requires c κs = search needs
+
+enum-known-task-8 : tie.Need-enum-known-task-8
+enum-known-task-8 c = search needs
+
+two-requires : tie.Need-two-requires
+two-requires c κs = search needs
+
+enum-known-task-9 : tie.Need-enum-known-task-9
+enum-known-task-9 c = search needs
+
+mul-requires : tie.Need-mul-requires
+mul-requires c κs = search needs
+
+enum-known-task-10 : tie.Need-enum-known-task-10
+enum-known-task-10 c = search needs
+
+div-requires : tie.Need-div-requires
+div-requires c κs = search needs
+
+enum-known-task-11 : tie.Need-enum-known-task-11
+enum-known-task-11 c = search needs
+
+ex-requires : tie.Need-ex-requires
+ex-requires c κs = search needs
+
+same-length : tie.Need-same-length
+same-length c = search needs
+
+same-length-2 : tie.Need-same-length-2
+same-length-2 c = search needs
+
+returns : tie.Need-returns
+unfolding ruleOf
+returns c =
+    let at-enum-told = c .before .before .before .before .before .before .before in
+    rw (at-enum-told .enum-told .given .1) (c .before .before .before .before .rtn .ensures _ _ _)
+
+same-length-3 : tie.Need-same-length-3
+same-length-3 c = search needs
+
+same-length-4 : tie.Need-same-length-4
+same-length-4 c = search needs
+
+returns-2 : tie.Need-returns-2
+unfolding ruleOf
+returns-2 c =
+    let at-enum-told2 = c .before .before .before .before .before .before .before in
+    rw (at-enum-told2 .enum-told2 .given .1) (c .before .before .before .before .rtnc .ensures _ _ _)
+
+same-length-5 : tie.Need-same-length-5
+same-length-5 c = search needs
+
+same-length-6 : tie.Need-same-length-6
+same-length-6 c = search needs
+
+returns-3 : tie.Need-returns-3
+unfolding ruleOf
+returns-3 c =
+    let at-enum-told3 = c .before .before .before .before .before .before .before in
+    rw (at-enum-told3 .enum-told3 .given .1) (c .before .before .before .before .rand .ensures _ _)
+
+same-length-7 : tie.Need-same-length-7
+same-length-7 c = search needs
+
+same-length-8 : tie.Need-same-length-8
+same-length-8 c = search needs
+
+returns-4 : tie.Need-returns-4
+unfolding ruleOf
+returns-4 c =
+    let at-enum-told4 = c .before .before .before .before .before .before .before in
+    rw (at-enum-told4 .enum-told4 .given .1) (c .before .before .before .before .back .ensures _ _)
+
+same-length-9 : tie.Need-same-length-9
+same-length-9 c = search needs
+
+same-length-10 : tie.Need-same-length-10
+same-length-10 c = search needs
+
+returns-5 : tie.Need-returns-5
+unfolding ruleOf
+returns-5 c =
+    let at-enum-told5 = c .before .before .before .before .before .before .before in
+    rw (at-enum-told5 .enum-told5 .given .1) (c .before .before .before .before .long .ensures _ _)
+
+same-length-11 : tie.Need-same-length-11
+same-length-11 c = search needs
+
+same-length-12 : tie.Need-same-length-12
+same-length-12 c = search needs
+
+returns-6 : tie.Need-returns-6
+unfolding ruleOf
+returns-6 c =
+    let at-enum-told6 = c .before .before .before .before .before .before .before in
+    rw (at-enum-told6 .enum-told6 .given .1) (c .before .before .before .before .call .ensures _ _)
+
+same-length-13 : tie.Need-same-length-13
+same-length-13 c = search needs
+
+same-length-14 : tie.Need-same-length-14
+same-length-14 c = search needs
+
+same-length-15 : tie.Need-same-length-15
+same-length-15 c = search needs
+
+returns-7 : tie.Need-returns-7
+unfolding ruleOf
+returns-7 c =
+    let at-all = c .before .before .before .before .before .before in
+    let at-enum-told7 = at-all .before .before .before .before in
+    rw (at-enum-told7 .enum-told7 .given .1) (at-all .all .ensures _)
+
+same-length-16 : tie.Need-same-length-16
+same-length-16 c = search needs
+
+same-length-17 : tie.Need-same-length-17
+same-length-17 c = search needs
+
+same-length-18 : tie.Need-same-length-18
+same-length-18 c = search needs
+
+returns-8 : tie.Need-returns-8
+unfolding ruleOf
+returns-8 c =
+    let at-format = c .before .before .before .before .before .before in
+    let at-enum-told8 = at-format .before .before .before .before in
+    rw (at-enum-told8 .enum-told8 .given .1) (at-format .format .ensures _)
+
+same-length-19 : tie.Need-same-length-19
+same-length-19 c = search needs
+
+same-length-20 : tie.Need-same-length-20
+same-length-20 c = search needs
+
+returns-9 : tie.Need-returns-9
+unfolding ruleOf
+returns-9 c =
+    let at-task = c .before .before .before .before .before .before .before .before in
+    rw (at-task .task .given .1) (c .before .before .before .before .test-status .ensures _ _ _)
+
+same-length-21 : tie.Need-same-length-21
+same-length-21 c = search needs
+
+same-length-22 : tie.Need-same-length-22
+same-length-22 c = search needs
+
+same-length-23 : tie.Need-same-length-23
+same-length-23 c = search needs
+
+same-length-24 : tie.Need-same-length-24
+same-length-24 c = search needs
+
+returns-10 : tie.Need-returns-10
+unfolding ruleOf
+returns-10 c =
+    let at-move-block = c .before .before .before .before .before .before .before .before in
+    let at-task2 = at-move-block .before .before .before .before .before .before in
+    rw (at-task2 .task2 .given .1) (at-move-block .move-block .ensures)
+
+same-length-25 : tie.Need-same-length-25
+same-length-25 c = search needs
+
+same-length-26 : tie.Need-same-length-26
+same-length-26 c = search needs
+
+returns-11 : tie.Need-returns-11
+unfolding ruleOf
+returns-11 c =
+    let at-task3 = c .before .before .before .before .before .before .before .before in
+    rw (at-task3 .task3 .given .1) (c .before .before .before .before .branch .ensures _ _)
+
+same-length-27 : tie.Need-same-length-27
+same-length-27 c = search needs
+
+same-length-28 : tie.Need-same-length-28
+same-length-28 c = search needs
+
+same-length-29 : tie.Need-same-length-29
+same-length-29 c = search needs
+
+returns-12 : tie.Need-returns-12
+unfolding ruleOf
+returns-12 c =
+    let at-one = c .before .before .before .before .before .before in
+    let at-task4 = at-one .before .before .before .before .before in
+    rw (at-task4 .task4 .given .1) (at-one .one .ensures _)
+
+same-length-30 : tie.Need-same-length-30
+same-length-30 c = search needs
+
+same-length-31 : tie.Need-same-length-31
+same-length-31 c = search needs
+
+same-length-32 : tie.Need-same-length-32
+same-length-32 c = search needs
+
+returns-13 : tie.Need-returns-13
+unfolding ruleOf
+returns-13 c =
+    let at-fetch = c .before .before .before .before .before .before in
+    let at-task5 = at-fetch .before .before .before .before .before in
+    rw (at-task5 .task5 .given .1) (at-fetch .fetch .ensures _)
+
+same-length-33 : tie.Need-same-length-33
+same-length-33 c = search needs
+
+same-length-34 : tie.Need-same-length-34
+same-length-34 c = search needs
+
+same-length-35 : tie.Need-same-length-35
+same-length-35 c = search needs
+
+returns-14 : tie.Need-returns-14
+unfolding ruleOf
+returns-14 c =
+    let at-task6 = c .before .before .before .before .before .before .before .before .before in
+    rw (at-task6 .task6 .given .1) (c .before .before .before .before .case .ensures _)
+
+same-length-36 : tie.Need-same-length-36
+same-length-36 c = search needs
+
+same-length-37 : tie.Need-same-length-37
+same-length-37 c = search needs
+
+same-length-38 : tie.Need-same-length-38
+same-length-38 c = search needs
+
+returns-15 : tie.Need-returns-15
+unfolding ruleOf
+returns-15 c =
+    let at-task7 = c .before .before .before .before .before .before .before .before .before in
+    rw (at-task7 .task7 .given .1) (c .before .before .before .before .push .ensures _)
+
+same-length-39 : tie.Need-same-length-39
+same-length-39 c = search needs
+
+same-length-40 : tie.Need-same-length-40
+same-length-40 c = search needs
+
+same-length-41 : tie.Need-same-length-41
+same-length-41 c = search needs
+
+returns-16 : tie.Need-returns-16
+unfolding ruleOf
+returns-16 c =
+    let at-two = c .before .before .before .before .before .before in
+    let at-task8 = at-two .before .before .before .before .before in
+    rw (at-task8 .task8 .given .1) (at-two .two .ensures _)
+
+same-length-42 : tie.Need-same-length-42
+same-length-42 c = search needs
+
+same-length-43 : tie.Need-same-length-43
+same-length-43 c = search needs
+
+same-length-44 : tie.Need-same-length-44
+same-length-44 c = search needs
+
+returns-17 : tie.Need-returns-17
+unfolding ruleOf
+returns-17 c =
+    let at-mul = c .before .before .before .before .before .before in
+    let at-task9 = at-mul .before .before .before .before .before in
+    rw (at-task9 .task9 .given .1) (at-mul .mul .ensures _)
+
+same-length-45 : tie.Need-same-length-45
+same-length-45 c = search needs
+
+same-length-46 : tie.Need-same-length-46
+same-length-46 c = search needs
+
+same-length-47 : tie.Need-same-length-47
+same-length-47 c = search needs
+
+returns-18 : tie.Need-returns-18
+unfolding ruleOf
+returns-18 c =
+    let at-div = c .before .before .before .before .before .before in
+    let at-task10 = at-div .before .before .before .before .before in
+    rw (at-task10 .task10 .given .1) (at-div .div .ensures _)
+
+same-length-48 : tie.Need-same-length-48
+same-length-48 c = search needs
+
+same-length-49 : tie.Need-same-length-49
+same-length-49 c = search needs
+
+same-length-50 : tie.Need-same-length-50
+same-length-50 c = search needs
+
+returns-19 : tie.Need-returns-19
+unfolding ruleOf
+returns-19 c =
+    let at-ex = c .before .before .before .before .before .before in
+    let at-task11 = at-ex .before .before .before .before .before in
+    rw (at-task11 .task11 .given .1) (at-ex .ex .ensures _)
+
+pub perform-spec : {M : Type 1} → statement M
+perform-spec =
+    tie.close
+    (tie.spec
+    enum-told
+    rtn-requires
+    enum-told-2
+    rtnc-requires
+    enum-told-3
+    rand-requires
+    enum-told-4
+    back-requires
+    enum-told-5
+    long-requires
+    enum-told-6
+    call-requires
+    enum-told-7
+    all-requires
+    enum-told-8
+    format-requires
+    enum-known-task
+    test-status-requires
+    enum-known-task-2
+    move-block-requires
+    enum-known-task-3
+    branch-requires
+    enum-known-task-4
+    one-requires
+    enum-known-task-5
+    fetch-requires
+    enum-known-task-6
+    case-requires
+    enum-known-task-7
+    push-requires
+    enum-known-task-8
+    two-requires
+    enum-known-task-9
+    mul-requires
+    enum-known-task-10
+    div-requires
+    enum-known-task-11
+    ex-requires
+    same-length
+    same-length-2
+    returns
+    same-length-3
+    same-length-4
+    returns-2
+    same-length-5
+    same-length-6
+    returns-3
+    same-length-7
+    same-length-8
+    returns-4
+    same-length-9
+    same-length-10
+    returns-5
+    same-length-11
+    same-length-12
+    returns-6
+    same-length-13
+    same-length-14
+    same-length-15
+    returns-7
+    same-length-16
+    same-length-17
+    same-length-18
+    returns-8
+    same-length-19
+    same-length-20
+    returns-9
+    same-length-21
+    same-length-22
+    same-length-23
+    same-length-24
+    returns-10
+    same-length-25
+    same-length-26
+    returns-11
+    same-length-27
+    same-length-28
+    same-length-29
+    returns-12
+    same-length-30
+    same-length-31
+    same-length-32
+    returns-13
+    same-length-33
+    same-length-34
+    same-length-35
+    returns-14
+    same-length-36
+    same-length-37
+    same-length-38
+    returns-15
+    same-length-39
+    same-length-40
+    same-length-41
+    returns-16
+    same-length-42
+    same-length-43
+    same-length-44
+    returns-17
+    same-length-45
+    same-length-46
+    same-length-47
+    returns-18
+    same-length-48
+    same-length-49
+    same-length-50
+    returns-19)

@@ -1,0 +1,53 @@
+// The instruction of a task.
+use crate::class::Task;
+use machine::state::Now;
+ghost use mathlib.Core.Path.{_≡_};
+ghost use lib.ListN.{length};
+ghost use Rattle.rules.specs.Rules.{after};
+ghost use Rattle.rules.specs.Tasks.{ruleOf};
+ghost use Rattle.machine.specs.Said.{out};
+ghost use Rattle.opcode.specs.Classes.{taskOf};
+
+pub fn perform(
+    image: &[u8],
+    pad: &mut [u8],
+    vram: &mut [u8],
+    regs: &mut [u8],
+    journal: &mut [u32],
+    m: Now,
+    task: Task,
+) -> Now
+    requires { ⌜ (length (now pad) ≡ 256) × (length (now vram) ≡ 16384) × (length (now regs) ≡ 8) ⌝ }
+    ensures { λ r. ⌜ out (now (pad .exit)) (now (vram .exit)) (now (regs .exit)) (now (journal .exit)) r ≡ after (now (image .entry)) (out (now (pad .entry)) (now (vram .entry)) (now (regs .entry)) (now (journal .entry)) m) (ruleOf (taskOf task)) ⌝ }
+{
+    match task {
+        Task::Rtn => flow::branches::rtn(pad, journal, m),
+        Task::Rtnc => flow::branches::rtnc(pad, journal, m),
+        Task::Rand => flow::random::rand(image, pad, journal, m),
+        Task::Back => flow::screen::back(image, regs, journal, m),
+        Task::Long => flow::branches::long(image, pad, journal, m),
+        Task::Call => flow::branches::call(image, pad, journal, m),
+        Task::All => flow::screen::all(image, pad, vram, journal, m),
+        Task::Fmt => format::codes::format(image, pad, vram, journal, m),
+        Task::Test(t) => flow::status::test_status(pad, journal, m, t),
+        Task::Move(bits) => block::whole::move_block(image, pad, vram, regs, journal, m, bits),
+        Task::Branch { set, upper } => flow::branches::branch(image, pad, journal, m, set, upper),
+        Task::One { op, wide } => arith::operations::one(image, pad, vram, journal, m, op, wide),
+        Task::Fetch(wide) => flow::operands::fetch(image, pad, vram, journal, m, wide),
+        Task::Case(wide) => flow::operands::case(image, pad, vram, journal, m, wide),
+        Task::Push(wide) => flow::operands::push(image, pad, vram, journal, m, wide),
+        Task::Two { op, imm, wide } => arith::operations::two(
+            image,
+            pad,
+            vram,
+            journal,
+            m,
+            op,
+            imm,
+            wide,
+        ),
+        Task::Mul { imm, wide } => arith::products::mul(image, pad, vram, journal, m, imm, wide),
+        Task::Div { imm, wide } => arith::products::div(image, pad, vram, journal, m, imm, wide),
+        Task::Ex(wide) => arith::operations::ex(image, pad, vram, journal, m, wide),
+    }
+}
