@@ -6,10 +6,17 @@ use lib.ListN.{length, take, drop}
 use Rattle.rules.specs.Machine.{pick, Mem, mem, State, state}
 use Rattle.rules.specs.Journal.{Store, blanked}
 use Rattle.rules.specs.Rules.{Out, got, stopped}
+use Rattle.rules.specs.Opcodes.{Task, does}
 use Rattle.rules.specs.Calls as calls
 use Rattle.bench.specs.declared.walk.Reply as walk
+use Rattle.bench.specs.declared.runs.Report as runs
 use Rattle.bench.specs.declared.viewer.Memory.{Memory}
 use Rattle.bench.specs.declared.viewer.Memory.the-variants.{Cpu, Vdp}
+
+-- ---- the state that a call is lent: pad, VDP RAM, registers, journal, pc and used words
+
+abbrev pub lent : List ℕ → List ℕ → List ℕ → List ℕ → ℕ → ℕ → State
+lent p v g j pc u = state pc (mem p v g j u)
 
 -- ---- a step or a step back: a reply of the rules, and the number of byte stores
 
@@ -28,6 +35,30 @@ replies a pc m = pick (eqb a 0) (calls.done (state pc m)) (calls.refused a (stat
 abbrev pub told : List ℕ → List ℕ → List ℕ → List ℕ → walk.Reply → Outcome
 told p v g j r = outcome (replies (r .answer) (r .pc) (mem p v g j (r .used))) (r .stores)
 
+-- ---- a step
+
+-- how an attempt is settled, with the number of its stores: "A refused step puts all back", and reports none
+abbrev pub settled : State → Out (Unit {0}) → List Store → Outcome
+settled s (got a pc m) ss = outcome (calls.done (state pc m)) (length ss)
+settled s (stopped n m) ss = outcome (calls.refused n (state (s .pc) (blanked (m .used - s .mem .used) (s .mem)))) 0
+
+-- a task, its opcode read, past which is pc₁
+abbrev pub beginning : List ℕ → Task → ℕ → State → Outcome
+beginning i t pc₁ s = settled s (calls.begin i (s .pc) (does t) pc₁ (s .mem)) (calls.beginStores i (s .pc) (does t) pc₁ (s .mem))
+
+-- a step past test 11
+abbrev pub settling : List ℕ → State → Outcome
+settling i s = settled s (calls.attempt i s) (calls.stepStores i s)
+
+-- a step
+abbrev pub stepping : List ℕ → State → Outcome
+stepping i s = outcome (calls.step i s) (calls.made i s (calls.step i s))
+
+-- ---- a run: the rules' report
+
+abbrev pub reported : List ℕ → List ℕ → List ℕ → List ℕ → runs.Report → calls.Report
+reported p v g j r = calls.report (r .answer) (r .steps) (r .stores) (state (r .pc) (mem p v g j (r .used)))
+
 -- ---- the viewer
 
 abbrev pub memoryOf : Memory → calls.Memory
@@ -37,10 +68,3 @@ memoryOf Vdp = calls.vdpRam
 -- len bytes from an address on, of the first `reach`
 unfoldable pub part : ℕ → List ℕ → ℕ → ℕ → List ℕ
 part reach xs at len = pick (leb at reach) (pick (leb len (reach - at)) (take len (drop at xs)) []) []
-
--- ---- a step
-
--- how an attempt is settled, with the number of its stores: "A refused step puts all back", and reports none
-abbrev pub settled : State → Out (Unit {0}) → List Store → Outcome
-settled s (got a pc m) ss = outcome (calls.done (state pc m)) (length ss)
-settled s (stopped n m) ss = outcome (calls.refused n (state (s .pc) (blanked (m .used - s .mem .used) (s .mem)))) 0

@@ -6,12 +6,9 @@ use opcode::class::Task;
 ghost use mathlib.Core.Path.{_≡_};
 ghost use Prim.Native.Nat.{_≤_};
 ghost use lib.ListN.{length};
-ghost use Rattle.rules.specs.Machine.{mem, state};
-ghost use Rattle.rules.specs.Opcodes.{does};
-ghost use Rattle.rules.specs.Calls;
-ghost use Rattle.rules.specs.Calls.{begin, beginStores, attempt, stepStores, made, fitBack, stepBack};
+ghost use Rattle.rules.specs.Calls.{fitBack, stepBack};
 ghost use Rattle.opcode.specs.Classes.{taskOf};
-ghost use Rattle.bench.specs.Told.{told, outcome, settled};
+ghost use Rattle.bench.specs.Told.{lent, told, outcome, beginning, settling, stepping};
 
 // What a call leaves: its answer, pc and used words, and how many bytes it stored.
 pub struct Reply {
@@ -35,7 +32,7 @@ fn do_task(
     task: Task,
 ) -> Reply
     requires { ⌜ (length (now pad) ≡ 256) × (length (now vram) ≡ 16384) × (length (now regs) ≡ 8) × (m .used ≤ length (now journal)) × (m .answer ≡ 0) ⌝ }
-    ensures { λ r. ⌜ told (now (pad .exit)) (now (vram .exit)) (now (regs .exit)) (now (journal .exit)) r ≡ settled (state pc (mem (now (pad .entry)) (now (vram .entry)) (now (regs .entry)) (now (journal .entry)) (m .used))) (begin (now (image .entry)) pc (does (taskOf task)) (m .pc) (mem (now (pad .entry)) (now (vram .entry)) (now (regs .entry)) (now (journal .entry)) (m .used))) (beginStores (now (image .entry)) pc (does (taskOf task)) (m .pc) (mem (now (pad .entry)) (now (vram .entry)) (now (regs .entry)) (now (journal .entry)) (m .used))) ⌝ }
+    ensures { λ r. ⌜ told (now (pad .exit)) (now (vram .exit)) (now (regs .exit)) (now (journal .exit)) r ≡ beginning (now (image .entry)) (taskOf task) (m .pc) (lent (now (pad .entry)) (now (vram .entry)) (now (regs .entry)) (now (journal .entry)) pc (m .used)) ⌝ }
 {
     let used = m.used;
     let marked = machine::journal::take_mark(journal, m, pc);
@@ -61,7 +58,7 @@ fn do_task(
 }
 
 // A step past test 11: the opcode, and its class.
-fn fit_step(
+pub(crate) fn fit_step(
     image: &[u8],
     pad: &mut [u8],
     vram: &mut [u8],
@@ -71,7 +68,7 @@ fn fit_step(
     used: usize,
 ) -> Reply
     requires { ⌜ (length (now pad) ≡ 256) × (length (now vram) ≡ 16384) × (length (now regs) ≡ 8) × (used ≤ length (now journal)) ⌝ }
-    ensures { λ r. ⌜ told (now (pad .exit)) (now (vram .exit)) (now (regs .exit)) (now (journal .exit)) r ≡ settled (state pc (mem (now (pad .entry)) (now (vram .entry)) (now (regs .entry)) (now (journal .entry)) used)) (attempt (now (image .entry)) (state pc (mem (now (pad .entry)) (now (vram .entry)) (now (regs .entry)) (now (journal .entry)) used))) (stepStores (now (image .entry)) (state pc (mem (now (pad .entry)) (now (vram .entry)) (now (regs .entry)) (now (journal .entry)) used))) ⌝ }
+    ensures { λ r. ⌜ told (now (pad .exit)) (now (vram .exit)) (now (regs .exit)) (now (journal .exit)) r ≡ settling (now (image .entry)) (lent (now (pad .entry)) (now (vram .entry)) (now (regs .entry)) (now (journal .entry)) pc used) ⌝ }
 {
     let start = Now {
         pc,
@@ -110,7 +107,7 @@ pub fn step(
     pc: u16,
     used: usize,
 ) -> Reply
-    ensures { λ r. ⌜ told (now (pad .exit)) (now (vram .exit)) (now (regs .exit)) (now (journal .exit)) r ≡ outcome (Calls.step (now (image .entry)) (state pc (mem (now (pad .entry)) (now (vram .entry)) (now (regs .entry)) (now (journal .entry)) used))) (made (now (image .entry)) (state pc (mem (now (pad .entry)) (now (vram .entry)) (now (regs .entry)) (now (journal .entry)) used)) (Calls.step (now (image .entry)) (state pc (mem (now (pad .entry)) (now (vram .entry)) (now (regs .entry)) (now (journal .entry)) used)))) ⌝ }
+    ensures { λ r. ⌜ told (now (pad .exit)) (now (vram .exit)) (now (regs .exit)) (now (journal .exit)) r ≡ stepping (now (image .entry)) (lent (now (pad .entry)) (now (vram .entry)) (now (regs .entry)) (now (journal .entry)) pc used) ⌝ }
 {
     let fit = fits::all_fit(
         image.len(),
@@ -143,7 +140,7 @@ fn fit_back(
     used: usize,
 ) -> Reply
     requires { ⌜ (length (now pad) ≡ 256) × (length (now vram) ≡ 16384) × (length (now regs) ≡ 8) × (used ≤ length (now journal)) ⌝ }
-    ensures { λ r. ⌜ told (now (pad .exit)) (now (vram .exit)) (now (regs .exit)) (now (journal .exit)) r ≡ outcome (fitBack (state pc (mem (now (pad .entry)) (now (vram .entry)) (now (regs .entry)) (now (journal .entry)) used))) 0 ⌝ }
+    ensures { λ r. ⌜ told (now (pad .exit)) (now (vram .exit)) (now (regs .exit)) (now (journal .exit)) r ≡ outcome (fitBack (lent (now (pad .entry)) (now (vram .entry)) (now (regs .entry)) (now (journal .entry)) pc used)) 0 ⌝ }
 {
     let found = machine::journal::find(journal, used);
     let words = found.words;
@@ -172,7 +169,7 @@ pub fn step_back(
     pc: u16,
     used: usize,
 ) -> Reply
-    ensures { λ r. ⌜ told (now (pad .exit)) (now (vram .exit)) (now (regs .exit)) (now (journal .exit)) r ≡ outcome (stepBack (state pc (mem (now (pad .entry)) (now (vram .entry)) (now (regs .entry)) (now (journal .entry)) used))) 0 ⌝ }
+    ensures { λ r. ⌜ told (now (pad .exit)) (now (vram .exit)) (now (regs .exit)) (now (journal .exit)) r ≡ outcome (stepBack (lent (now (pad .entry)) (now (vram .entry)) (now (regs .entry)) (now (journal .entry)) pc used)) 0 ⌝ }
 {
     let fit = fits::parts_fit(pad.len(), vram.len(), regs.len(), journal.len(), used);
     if !fit {
