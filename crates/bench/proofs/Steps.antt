@@ -7,36 +7,24 @@ use native.Mathlib.Nat.{sub-self}
 use native.Mathlib.Omega.{arith}
 use lib.Dec.{ltb}
 use lib.ListN.{length, getD, length-set}
-use borrow.Author.Tests.{ne-eqb, ltb-true}
+use borrow.Author.Tests.{ne-eqb}
 use Rattle.rules.specs.Machine.{pick, cpu, vdp, register, Mem, mem, State, state, onward}
-use Rattle.rules.specs.Answers.{number, noRoom, offGrom}
-use Rattle.rules.specs.Journal.{markWord, lay, Store, undo, blanked}
-use Rattle.rules.specs.Rules.{Out, got, stopped, then, after, valued, next, nextByte, perform, exec, room, stores, storesThen}
+use Rattle.rules.specs.Answers.{number, offGrom}
+use Rattle.rules.specs.Journal.{markWord, Store, undo, blanked}
+use Rattle.rules.specs.Rules.{Out, got, stopped, then, after, valued, next, nextByte, perform, exec, storesThen}
 use Rattle.rules.specs.Opcodes.{Task, Class, stops, does, classOf}
 use Rattle.rules.specs.Tasks.{ruleOf}
 use Rattle.rules.specs.Calls.{fits, done, refused, takeMark, begin, attempt, settle, fitStep, step, beginStores, stepStores, made}
 use Rattle.rules.specs.Demands.{Bytes}
-use Rattle.rules.proofs.Stores.{memOf, makes, used-after, used-fits}
-use Rattle.rules.proofs.Steps.{Tried, early, late, rollback-step}
+use Rattle.rules.proofs.Stores.{memOf, used-after, used-fits}
+use Rattle.rules.proofs.Steps.{Tried, early, late, tried-begin, rollback-step}
+use Rattle.rules.proofs.Replies.{tried-count}
 use Rattle.rules.proofs.Opcodes.{never-done}
 use Rattle.machine.specs.Said.{outs}
 use Rattle.opcode.specs.Classes.{halts, tasks, said}
 use Rattle.bench.specs.Told.{Outcome, outcome, replies, settled}
 
--- ---- a task attempted: nothing done, or a mark and then stores
-
-module _ (i : List ℕ) (t : Task) (pc pc₁ : ℕ) (m : Mem) where
-  took : Bool → Out (Unit {0})
-  took c = pick c (got tt pc₁ (lay (markWord pc) m)) (stopped (number noRoom) m)
-
-  tried-by : (c : Bool) → room m ≡ c → Tried pc m (storesThen (took c) (λ _ pc₂ m₂. stores (ruleOf t) i pc₂ m₂)) (after i (took c) (ruleOf t))
-  unfolding took after
-  tried-by true e = late (ltb-true _ _ e) (makes (ruleOf t) i pc₁ (lay (markWord pc) m))
-  tried-by false e = early
-
-  tried-task : Tried pc m (beginStores i pc (does t) pc₁ m) (begin i pc (does t) pc₁ m)
-  unfolding begin beginStores takeMark took
-  tried-task = tried-by (room m) refl
+-- ---- a task attempted
 
 -- the calls in a row are the attempt
 pub began : (i : List ℕ) (t : Task) (pc pc₁ : ℕ) (m : Mem) (o₁ o₂ : Out (Unit {0})) {z : ℕ} → z ≡ 0
@@ -59,13 +47,9 @@ tried-fits : {pc : ℕ} {m : Mem} {ss : List Store} {o : Out (Unit {0})} → Tri
 tried-fits early l = l
 tried-fits {pc} {m} (late h t) l = used-fits t (rw (length-set (m .journal) (m .used) (markWord pc)) h)
 
--- one that was done has taken a word for its mark and one for each store
-tried-count : {pc pc₂ : ℕ} {m m₂ : Mem} {ss : List Store} → Tried pc m ss (got tt pc₂ m₂) → m₂ .used ≡ suc (m .used) + length ss
-tried-count (late h t) = used-after t
-
 module _ (i : List ℕ) (t : Task) (pc pc₁ : ℕ) (m : Mem) (a pc₂ : ℕ) (m₂ : Mem) (e : outs a pc₂ m₂ ≡ begin i pc (does t) pc₁ m) where
   attempted : Tried pc m (beginStores i pc (does t) pc₁ m) (outs a pc₂ m₂)
-  attempted = subst (Tried pc m (beginStores i pc (does t) pc₁ m)) (sym e) (tried-task i t pc pc₁ m)
+  attempted = subst (Tried pc m (beginStores i pc (does t) pc₁ m)) (sym e) (tried-begin i pc m (does t) pc₁)
 
   pub used-grows : m .used ≤ m₂ .used
   used-grows = subst (λ (x : Mem). m .used ≤ x .used) (memOf-outs a pc₂ m₂) (tried-grows attempted)

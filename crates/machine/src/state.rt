@@ -16,19 +16,6 @@ pub struct Now {
     pub word: u16,
 }
 
-// A machine at the start of a step.
-pub fn begun(pc: u16, used: usize) -> Now
-    ensures { λ r. ⌜ (r .pc ≡ pc) × (r .used ≡ used) × (r .answer ≡ 0) ⌝ }
-{
-    Now {
-        pc,
-        used,
-        answer: 0,
-        byte: 0,
-        word: 0,
-    }
-}
-
 pub fn give_byte(m: Now, b: u8) -> Now
     ensures { λ r. ⌜ ((i p v g j : List ℕ) → valued (r .byte) (out p v g j r) ≡ after i (out p v g j m) (give b)) ⌝ }
 {

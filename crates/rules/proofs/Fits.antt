@@ -1,18 +1,18 @@
 -- Test 11 of a step and of a step back: what a call is where it passes, and that an accepted step leaves parts that pass it.
-use mathlib.Core.Path.{_≡_, refl, _∙_, ap, sym, subst}
+use mathlib.Core.Path.{_≡_, refl, _∙_, sym, subst}
 use mathlib.Core.Bool.{Bool, true, false}
 use mathlib.Core.List.{List}
-use Prim.Native.Nat.{ℕ, suc, _≤_}
-use lib.Dec.{leb, eqb}
+use Prim.Native.Nat.{ℕ, _≤_}
+use lib.Dec.{eqb}
 use lib.ListN.{length, length-set}
 use borrow.Author.Tests.{le-leb, leb-true}
-use Rattle.rules.specs.Machine.{pick, _also_, cpu, vdp, register, size, Mem, State, state}
+use Rattle.rules.specs.Machine.{pick, _also_, cpu, vdp, register, size, Mem, State}
 use Rattle.rules.specs.Answers.{number, wrongLength}
 use Rattle.rules.specs.Journal.{markWord, lay, Store}
-use Rattle.rules.specs.Calls.{partsFit, memFits, fits, Reply, done, refused, left, fitStep, step, stepStores, fitBack, stepBack}
+use Rattle.rules.specs.Calls.{partsFit, memFits, fits, Reply, refused, fitStep, step, stepStores, fitBack, stepBack}
 use Rattle.rules.specs.Demands.{Good, Accepted}
-use Rattle.rules.proofs.Stores.{Made, lengths-after, journal-length, used-fits}
-use Rattle.rules.proofs.Clear.{keep, length-keep}
+use Rattle.rules.proofs.Stores.{lengths-after, journal-length, used-fits}
+use Rattle.rules.proofs.Clear.{length-keep}
 use Rattle.rules.proofs.Steps.{Stepped, Settled, settled, clearS, clearR, step-clear, back-clear}
 
 abbrev Is : Bool → Type 0

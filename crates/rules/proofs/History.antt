@@ -3,15 +3,15 @@
 use mathlib.Core.Path.{_≡_, refl, _∙_, ap, sym, subst}
 use mathlib.Core.Bool.{Bool, true, false}
 use mathlib.Core.List.{List, [], _∷_, _++_, map}
-use Prim.Native.Nat.{ℕ, zero, suc, _+_}
+use Prim.Native.Nat.{ℕ, suc, _+_}
 use native.Mathlib.Omega.{arith}
-use lib.ListN.{length, take, length-append, length-map}
+use lib.ListN.{length, take}
 use lib.Seq.{take-suc-set, append-snoc}
-use Rattle.rules.specs.Machine.{pick, Kind, Mem, State, state, cells}
+use Rattle.rules.specs.Machine.{Mem, State, state, cells}
 use Rattle.rules.specs.Answers.{number, wrongLength, noRecord}
 use Rattle.rules.specs.Journal.{markWord, Store, wordOf, blanked}
 use Rattle.rules.specs.Calls.{memFits, Reply, done, refused, left, step, stepStores, scan, fitBack, stepBack}
-use Rattle.rules.specs.Demands.{Good, Accepted, Refused, Op, forth, aback, reply, play, tally, kept, forward, AllAccepted, records, Demand3}
+use Rattle.rules.specs.Demands.{Good, Accepted, Refused, Op, forth, aback, reply, play, tally, kept, forward, AllAccepted, records, total, Demand3}
 use Rattle.rules.proofs.Stores.{used-after, words-after}
 use Rattle.rules.proofs.Clear.{take-keep, clear-blanked}
 use Rattle.rules.proofs.Steps.{Stepped, Settled, back-step, clearS, clearR}
@@ -86,13 +86,11 @@ module _ (s₀ : State) (g₀ : Good s₀) where
       ∙ append-snoc (take (t .mem .used) (t .mem .journal)) w ws
       ∙ ap (λ (l : List ℕ). l ++ w ∷ ws) (words-forward z is (a .0))
 
-  used-forward : s₀ .mem .used ≡ 0 → (is : List (List ℕ)) → AllAccepted is s₀ → forward is s₀ .mem .used ≡ length (records is s₀)
+  used-forward : s₀ .mem .used ≡ 0 → (is : List (List ℕ)) → AllAccepted is s₀ → forward is s₀ .mem .used ≡ length is + total is s₀
   used-forward z [] a = z
   used-forward z (i ∷ is) a =
-      let t : State = forward is s₀ in
-      let ws : List ℕ = map wordOf (stepStores i t) in
-      let h : Stepped t (stepStores i t) (forward (i ∷ is) s₀) = stepped-forward i is a in
-      omega (arith, used-forward z is (a .0), used-after (h .makes), length-append (records is s₀) (markWord (t .pc) ∷ ws), length-map (stepStores i t) wordOf)
+      let h : Stepped (forward is s₀) (stepStores i (forward is s₀)) (forward (i ∷ is) s₀) = stepped-forward i is a in
+      omega (arith, used-forward z is (a .0), used-after (h .makes))
 
 -- ---- steps and step-backs
 

@@ -7,6 +7,7 @@ pub mod Fits
 pub mod History
 pub mod Run
 pub mod Opcodes
-pub mod Numbered
+pub mod Named
+pub mod Replies
 pub mod Compute
 pub mod Cards

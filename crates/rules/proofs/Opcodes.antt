@@ -1,5 +1,5 @@
 -- The 256 opcodes by one computed test: those that 1, 2 and 3 stop are exactly 01's lists, and every other has a rule.
-use mathlib.Core.Path.{_≡_, refl, _∙_, ap, sym, subst}
+use mathlib.Core.Path.{_≡_, refl, _∙_, ap}
 use mathlib.Core.Bool.{Bool, true, false}
 use mathlib.Core.List.{List, [], _∷_, _++_}
 use Prim.Native.Nat.{ℕ, zero, suc, _<_}

@@ -1,6 +1,6 @@
 -- A run: its steps and stores are those of its completed steps, and it stops at the first answer other than 0.
 use mathlib.Core.Path.{_≡_, refl, _∙_, ap, sym, subst}
-use mathlib.Core.Bool.{Bool, true, false}
+use mathlib.Core.Bool.{true, false}
 use mathlib.Core.List.{List}
 use Prim.Native.Nat.{ℕ, zero, suc, _+_, suc-le-suc}
 use native.Mathlib.Nat.{zero-lt-suc}
@@ -44,7 +44,7 @@ module _ (i : List ℕ) where
       ends-before n s r (subst Accepted (sym e) tt) (subst (λ (x : Reply). Ends n i (left x) r) (sym e) h)
   ends-onto n s (refused a t) r e h = cut (zero-lt-suc n) tt e
 
-  steps-end : (n : ℕ) (s : State) → Ends n i s (steps n i s)
+  pub steps-end : (n : ℕ) (s : State) → Ends n i s (steps n i s)
   unfolding steps
   steps-end zero s = full tt
   steps-end (suc n) s = ends-onto n s (step i s) (steps n i (left (step i s))) refl (steps-end n (left (step i s)))

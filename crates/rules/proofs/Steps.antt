@@ -1,5 +1,5 @@
 -- A step and a step back, past test 11: how each ends, that the one undoes the other, and that the journal above the used words plays no part.
-use mathlib.Core.Path.{_≡_, refl, _∙_, ap, ap₂, sym, subst}
+use mathlib.Core.Path.{_≡_, refl, _∙_, ap, ap₂, sym}
 use mathlib.Core.Bool.{Bool, true, false}
 use mathlib.Core.List.{List, []}
 use Prim.Native.Nat.{ℕ, zero, suc, _+_, _-_, _%_, _<_}
@@ -9,7 +9,7 @@ use lib.Dec.{ltb, lit<}
 use lib.ListN.{length, getD, set}
 use lib.Seq.{getD-set-same, getD-set-other}
 use borrow.Author.Tests.{ltb-true}
-use Rattle.rules.specs.Machine.{pick, Kind, reach, Mem, State, state, cells, onward}
+use Rattle.rules.specs.Machine.{pick, reach, Mem, State, state, cells, onward}
 use Rattle.rules.specs.Answers.{number, noRoom, offGrom, outside}
 use Rattle.rules.specs.Journal.{markWord, lay, Store, storeOf, wordOf, make, Note, mark, note, undoTop, undo, blanked}
 use Rattle.rules.specs.Rules.{Act, next, grom, ask, jump, load, store, Rule, give, refuse, act, Out, got, stopped, then, room, perform, exec, after, stores, storesThen}
@@ -81,7 +81,7 @@ module _ (i : List ℕ) (pc : ℕ) (m : Mem) where
   tried-does r pc₁ true e = late (ltb-true _ _ e) (makes r i pc₁ (lay (markWord pc) m))
   tried-does r pc₁ false e = early
 
-  tried-begin : (c : Class) (pc₁ : ℕ) → Tried pc m (beginStores i pc c pc₁ m) (begin i pc c pc₁ m)
+  pub tried-begin : (c : Class) (pc₁ : ℕ) → Tried pc m (beginStores i pc c pc₁ m) (begin i pc c pc₁ m)
   unfolding begin beginStores takeMark took
   tried-begin (stops why) pc₁ = early
   tried-begin (does t) pc₁ = tried-does (ruleOf t) pc₁ _ refl

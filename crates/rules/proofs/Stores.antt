@@ -6,7 +6,7 @@ use Prim.Native.Nat.{ℕ, zero, _+_, _%_, _≤_, _<_}
 use native.Mathlib.Nat.{mod-lt}
 use native.Mathlib.Omega.{arith}
 use lib.Dec.{ltb, lit<}
-use lib.ListN.{length, getD, set, take, length-set}
+use lib.ListN.{length, getD, take, length-set}
 use lib.Seq.{sets, take-suc-set, append-snoc}
 use borrow.Author.Tests.{ltb-true}
 use Rattle.rules.specs.Machine.{pick, Kind, cpu, vdp, register, reach, Mem, cells, put}

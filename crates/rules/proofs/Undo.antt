@@ -6,11 +6,11 @@ use Prim.Native.Nat.{ℕ, zero, suc, _+_, _-_, _*_, _/_, _%_, _^_, _≤_, _<_}
 use native.Mathlib.Nat.{le-refl}
 use native.Mathlib.Omega.{arith}
 use native.Mathlib.Decide.{ℕ-discrete}
-use lib.Dec.{ltb, lit≤}
+use lib.Dec.{lit≤}
 use lib.ListN.{length, getD, set, length-set}
 use lib.Seq.{set-set, set-getD, set-comm, getD-set-same, getD-set-other}
 use borrow.Author.Tests.{lt-ltb}
-use Rattle.rules.specs.Machine.{pick, Kind, cpu, vdp, register, reach, Mem, mem, cells, put, beside}
+use Rattle.rules.specs.Machine.{Kind, cpu, vdp, register, reach, Mem, mem, cells, put, beside}
 use Rattle.rules.specs.Journal.{kindNumber, word, markWord, lay, Store, wordOf, make, Note, stood, mark, unsound, stoodIn, noteOf, note, restore, zeroTop, undoTop, undo, blank, blanked}
 use Rattle.rules.specs.Rules.{Rule, exec, stores}
 use Rattle.rules.specs.Demands.{Bytes}

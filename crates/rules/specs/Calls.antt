@@ -1,10 +1,10 @@
 -- 01, "What a call says": step, run, step-back and viewer.
-use mathlib.Core.Bool.{Bool, true, false}
+use mathlib.Core.Bool.{Bool}
 use mathlib.Core.List.{List, []}
 use Prim.Native.Nat.{ℕ, zero, suc, _+_, _-_, _*_, _%_}
 use lib.Dec.{leb, eqb}
 use lib.ListN.{length, getD, take, drop}
-use Rattle.rules.specs.Machine.{pick, _also_, Kind, cpu, vdp, register, size, reach, group, Mem, State, state, cells}
+use Rattle.rules.specs.Machine.{pick, _also_, Kind, cpu, vdp, register, size, reach, group, Mem, State, state}
 use Rattle.rules.specs.Answers.{number, noRoom, wrongLength, noRecord}
 use Rattle.rules.specs.Journal.{markWord, lay, Store, Note, stood, mark, unsound, note, undo, blanked}
 use Rattle.rules.specs.Rules.{Out, got, stopped, then, after, room, next, perform, stores, storesThen}

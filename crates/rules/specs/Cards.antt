@@ -1,11 +1,11 @@
 -- 01, "Bench cards": a case is what is given and what must come out, and one test says whether it does.
-use mathlib.Core.Bool.{Bool, true, false}
+use mathlib.Core.Bool.{Bool, true}
 use mathlib.Core.List.{List, [], _∷_, _++_}
 use Prim.Native.Nat.{ℕ, zero, suc, _/_, _%_}
 use lib.Dec.{eqb}
 use lib.ListN.{getD, replicate}
 use lib.Seq.{sets}
-use Rattle.rules.specs.Machine.{_also_, Kind, cpu, vdp, register, size, group, Mem, mem, State, state, cells, put, subPointer, status, ypt, xpt, seedCell, registerCopy, randomNumber}
+use Rattle.rules.specs.Machine.{_also_, Kind, cpu, vdp, register, size, group, Mem, mem, state, cells, put, subPointer, status, ypt, xpt, seedCell, registerCopy, randomNumber}
 use Rattle.rules.specs.Calls.{Report, run}
 
 -- bytes from an address on

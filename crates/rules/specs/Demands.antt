@@ -1,11 +1,14 @@
 -- The words in which the demands are stated: what is supposed of a state, and what a sequence of calls leaves. README has the three demands; they are quoted here.
 use mathlib.Core.Path.{_≡_}
+use mathlib.Core.Bool.{true}
 use mathlib.Core.List.{List, [], _∷_, _++_, map}
-use Prim.Native.Nat.{ℕ, _+_, _<_}
+use Prim.Native.Nat.{ℕ, suc, _+_, _-_, _<_}
 use lib.ListN.{length, getD, take, replicate}
-use Rattle.rules.specs.Machine.{Kind, Mem, State, cells}
-use Rattle.rules.specs.Journal.{markWord, wordOf}
-use Rattle.rules.specs.Calls.{Reply, done, refused, left, step, stepStores, stepBack, Report, report}
+use Rattle.rules.specs.Machine.{pick, Kind, Mem, State, cells}
+use Rattle.rules.specs.Answers.{Why, number}
+use Rattle.rules.specs.Journal.{markWord, wordOf, blank}
+use Rattle.rules.specs.Rules.{Out, got, stopped}
+use Rattle.rules.specs.Calls.{fits, Reply, done, refused, left, attempt, step, stepStores, stepBack, Report, report}
 
 -- ---- what is supposed: no more than the types of a byte and of a 16-bit number give
 
@@ -25,6 +28,42 @@ Accepted (refused n s) = ⊥
 abbrev pub Refused : Reply → Type 0
 Refused (done s) = ⊥
 Refused (refused n s) = Unit {0}
+
+-- ---- demand 1
+
+-- a refusal that the table of answers has
+pub record Listed (n : ℕ) : Type 0 where
+  pub why : Why
+  pub is : n ≡ number why
+
+-- how many journal words are in use where an attempt ends
+abbrev pub usedOf : Out (Unit {0}) → ℕ
+usedOf (got a pc m) = m .used
+usedOf (stopped n m) = m .used
+
+-- "the journal words that it had begun to use": none where test 11 fails
+abbrev pub begunWords : List ℕ → State → ℕ
+begunWords i s = pick (fits i s) (usedOf (attempt i s) - s .mem .used) 0
+
+-- What is so of the state t that a step of s leaves which is refused with n:
+pub record Demand1 (i : List ℕ) (s : State) (n : ℕ) (t : State) : Type 0 where
+  pub listed : Listed n
+  -- "A refused step returns program address, CPU RAM, VDP RAM and VDP registers to their values before it"
+  pub address : t .pc ≡ s .pc
+  pub memories : (k : Kind) → cells k (t .mem) ≡ cells k (s .mem)
+  pub used : t .mem .used ≡ s .mem .used
+  -- "and zeroes only the journal words that it had begun to use"
+  pub words : t .mem .journal ≡ blank (begunWords i s) (s .mem .used) (s .mem .journal)
+
+-- ---- demand 2
+
+-- What is so of the state t that an accepted step of s leaves, and of the number n of its stores: "those that 01's rules give"
+pub record Demand2 (i : List ℕ) (s t : State) (n : ℕ) : Type 0 where
+  pub fit : fits i s ≡ true
+  pub left : attempt i s ≡ got tt (t .pc) (t .mem)
+  pub count : n ≡ length (stepStores i s)
+  -- no invention: the journal has grown by the mark and one word for each store
+  pub words : t .mem .used ≡ suc (s .mem .used) + n
 
 -- ---- a sequence of calls
 
@@ -96,7 +135,7 @@ pub record Demand3 (s₀ : State) (is : List (List ℕ)) (s : State) : Type 0 wh
   pub address : s .pc ≡ forward is s₀ .pc
   pub memories : (k : Kind) → cells k (s .mem) ≡ cells k (forward is s₀ .mem)
   -- "The journal then uses one word for each such step and one for each store that it made": these words, and no others
-  pub used : s .mem .used ≡ length (records is s₀)
+  pub used : s .mem .used ≡ length is + total is s₀
   pub words : take (s .mem .used) (s .mem .journal) ≡ records is s₀
   -- "A step-back is refused only when no such step is left."
   pub none-left : is ≡ [] → Refused (stepBack s)

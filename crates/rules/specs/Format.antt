@@ -5,7 +5,7 @@ use lib.Dec.{ltb, eqb}
 use Rattle.rules.specs.Machine.{pick, Kind, cpu, upon, subPointer, ypt, xpt}
 use Rattle.rules.specs.Answers.{offCpu, tooLong}
 use Rattle.rules.specs.Rules.{Rule, give, refuse, _>>=_, _>>_, nextByte, nextWord, goto, peek, poke, need}
-use Rattle.rules.specs.Operands.{Cell, place, position, draw}
+use Rattle.rules.specs.Operands.{place, position, draw}
 use Rattle.rules.specs.Instructions.{raise}
 
 -- ---- the cursor

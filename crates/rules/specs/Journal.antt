@@ -1,5 +1,4 @@
 -- 01, "What a call says": the journal's words, how a store lays one, and how they are read and taken off again.
-use mathlib.Core.Bool.{Bool}
 use mathlib.Core.List.{List}
 use Prim.Native.Nat.{ℕ, zero, suc, _+_, _*_, _/_, _%_, _^_}
 use lib.Dec.{ltb}

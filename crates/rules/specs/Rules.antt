@@ -4,7 +4,7 @@ use mathlib.Core.List.{List, [], _∷_, _++_}
 use Prim.Native.Nat.{ℕ, _+_, _%_}
 use lib.Dec.{ltb}
 use lib.ListN.{length, getD}
-use Rattle.rules.specs.Machine.{pick, Kind, cpu, reach, Mem, cells, onward, joined}
+use Rattle.rules.specs.Machine.{pick, Kind, reach, Mem, cells, onward, joined}
 use Rattle.rules.specs.Answers.{Why, number, offGrom, noRoom, outside}
 use Rattle.rules.specs.Journal.{Store, storeOf, make}
 
