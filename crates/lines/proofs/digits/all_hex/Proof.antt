@@ -1,0 +1,55 @@
+-- The invariant: all are digits if those that are left are.
+use mathlib.Core.Path.{_≡_, refl, sym, _∙_}
+use Prim.Native.Nat.{_-_, _≤_}
+use native.Mathlib.Omega.{arith}
+use lib.ListN.{length, drop}
+use borrow.Author.Needs.{needs}
+use Rattle.lines.specs.Digits.{allHex}
+use Rattle.lines.proofs.Numerals.{hex-on, hex-off, hex-end}
+use Rattle.lines.proofs.digits.all_hex.Statement.{statement}
+use Rattle.lines.proofs.digits.all_hex.Tie as tie
+
+abbrev Inv-loop : tie.InvT-loop
+Inv-loop s i₀ i = (allHex s ≡ allHex (drop i s)) × (i ≤ length s)
+
+abbrev μ-loop : tie.MeasureT-loop
+μ-loop s i₀ i = length s - i
+
+loop-holds : tie.Need-loop-holds Inv-loop μ-loop
+loop-holds c = (refl, omega arith)
+
+shared-slice-read-digit : tie.Need-shared-slice-read-digit Inv-loop μ-loop
+shared-slice-read-digit c = search needs
+
+digit-requires : tie.Need-digit-requires Inv-loop μ-loop
+digit-requires c κs = search needs
+
+returns : tie.Need-returns Inv-loop μ-loop
+returns c = sym (c .before .before .before .before .loop .inv .0 ∙ hex-off _ _ (c .before .before .before .loop-test .taken) (omega arith))
+
+add-i : tie.Need-add-i Inv-loop μ-loop
+add-i c = search needs
+
+loop-less : tie.Need-loop-less Inv-loop μ-loop
+loop-less c = search needs
+
+loop-again : tie.Need-loop-again Inv-loop μ-loop
+loop-again c = (c .before .before .before .before .loop .inv .0 ∙ hex-on _ _ (c .before .before .before .loop-test .taken) (omega arith), omega arith)
+
+returns-2 : tie.Need-returns-2 Inv-loop μ-loop
+returns-2 c = sym (c .before .loop .inv .0 ∙ hex-end _ _ (c .loop-test .left))
+
+pub all-hex-spec : {M : Type 1} → statement M
+all-hex-spec =
+    tie.close
+    (tie.spec
+    Inv-loop
+    μ-loop
+    loop-holds
+    shared-slice-read-digit
+    digit-requires
+    returns
+    add-i
+    loop-less
+    loop-again
+    returns-2)

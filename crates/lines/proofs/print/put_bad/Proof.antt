@@ -1,0 +1,41 @@
+-- The pieces, one after the other.
+use native.Mathlib.Omega.{arith}
+use Rattle.lines.specs.Shown.{badLine}
+use Rattle.lines.proofs.Printing.{begun, more, printed}
+use borrow.Author.Needs.{needs}
+use Rattle.lines.proofs.print.put_bad.Statement.{statement}
+use Rattle.lines.proofs.print.put_bad.Tie as tie
+
+slice-aggregate-put-word : tie.Need-slice-aggregate-put-word
+slice-aggregate-put-word c = search needs
+
+put-word-requires : tie.Need-put-word-requires
+put-word-requires c κs = search needs
+
+put-decimal-requires : tie.Need-put-decimal-requires
+put-decimal-requires c κs = search needs
+
+slice-aggregate-put-word-2 : tie.Need-slice-aggregate-put-word-2
+slice-aggregate-put-word-2 c = search needs
+
+put-word-requires-2 : tie.Need-put-word-requires-2
+put-word-requires-2 c κs = search needs
+
+returns : tie.Need-returns
+unfolding badLine
+returns c =
+    let at-put-word = c .before .before .before .before .before in
+    let one = begun _ (at-put-word .put-word .ensures .0) (at-put-word .put-word .ensures .1) in
+    let two = more one _ (c .before .before .before .put-decimal .ensures .0) (c .before .before .before .put-decimal .ensures .1) in
+    printed (more two _ (c .put-word2 .ensures .0) (c .put-word2 .ensures .1)) (omega arith)
+
+pub put-bad-spec : {M : Type 1} → statement M
+put-bad-spec =
+    tie.close
+    (tie.spec
+    slice-aggregate-put-word
+    put-word-requires
+    put-decimal-requires
+    slice-aggregate-put-word-2
+    put-word-requires-2
+    returns)
