@@ -1,0 +1,92 @@
+-- The chunk's span and the line's length stay within their buffers; each turn that goes on makes the line longer.
+use mathlib.Core.Path.{_≡_}
+use Prim.Native.Nat.{_-_, _≤_}
+use lib.ListN.{length}
+use borrow.Author.Needs.{needs}
+use Rattle.desk.proofs.input.next_line.Statement.{statement}
+use Rattle.desk.proofs.input.next_line.Tie as tie
+
+abbrev Inv-loop : tie.InvT-loop
+Inv-loop fd chunk₀ from until line₀ at₀ have₀ len₀ chunk line at have len = (at ≤ have) × (have ≤ length chunk) × (len ≤ 65546) × (length chunk ≡ length chunk₀) × (length line ≡ length line₀)
+
+abbrev μ-loop : tie.MeasureT-loop
+μ-loop fd chunk₀ from until line₀ at₀ have₀ len₀ chunk line at have len = 65546 - len
+
+loop-holds : tie.Need-loop-holds Inv-loop μ-loop
+loop-holds c = search needs
+
+refill-requires : tie.Need-refill-requires Inv-loop μ-loop
+refill-requires c κs = search needs
+
+same-length : tie.Need-same-length Inv-loop μ-loop
+same-length c = search needs
+
+same-length-2 : tie.Need-same-length-2 Inv-loop μ-loop
+same-length-2 c = search needs
+
+returns : tie.Need-returns Inv-loop μ-loop
+returns c = search needs
+
+slice-read-byte : tie.Need-slice-read-byte Inv-loop μ-loop
+slice-read-byte c = search needs
+
+add-at : tie.Need-add-at Inv-loop μ-loop
+add-at c = search needs
+
+same-length-3 : tie.Need-same-length-3 Inv-loop μ-loop
+same-length-3 c = search needs
+
+same-length-4 : tie.Need-same-length-4 Inv-loop μ-loop
+same-length-4 c = search needs
+
+returns-2 : tie.Need-returns-2 Inv-loop μ-loop
+returns-2 c = search needs
+
+slice-write-line : tie.Need-slice-write-line Inv-loop μ-loop
+slice-write-line c = search needs
+
+add-len : tie.Need-add-len Inv-loop μ-loop
+add-len c = search needs
+
+loop-less : tie.Need-loop-less Inv-loop μ-loop
+loop-less c = search needs
+
+loop-again : tie.Need-loop-again Inv-loop μ-loop
+loop-again c = search needs
+
+end-full-requires : tie.Need-end-full-requires Inv-loop μ-loop
+end-full-requires c κs = search needs
+
+same-length-5 : tie.Need-same-length-5 Inv-loop μ-loop
+same-length-5 c = search needs
+
+same-length-6 : tie.Need-same-length-6 Inv-loop μ-loop
+same-length-6 c = search needs
+
+returns-3 : tie.Need-returns-3 Inv-loop μ-loop
+returns-3 c = search needs
+
+pub next-line-spec : {M : Type 1} → statement M
+next-line-spec =
+    tie.close
+    (tie.spec
+    Inv-loop
+    μ-loop
+    loop-holds
+    refill-requires
+    same-length
+    same-length-2
+    returns
+    slice-read-byte
+    add-at
+    same-length-3
+    same-length-4
+    returns-2
+    slice-write-line
+    add-len
+    loop-less
+    loop-again
+    end-full-requires
+    same-length-5
+    same-length-6
+    returns-3)

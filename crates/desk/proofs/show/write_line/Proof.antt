@@ -1,0 +1,18 @@
+-- A part of the text has as many bytes as were asked for.
+use mathlib.Core.Path.{sym}
+use lib.Seq.{length-take-le}
+use borrow.Author.Needs.{needs}
+use Rattle.desk.proofs.show.write_line.Statement.{statement}
+use Rattle.desk.proofs.show.write_line.Tie as tie
+
+slice-aggregate-write-all : tie.Need-slice-aggregate-write-all
+slice-aggregate-write-all c = sym (length-take-le _ _ (c .before .before .pre))
+
+write-all-requires : tie.Need-write-all-requires
+write-all-requires c κs = search needs
+
+returns : tie.Need-returns
+returns c = search needs
+
+pub write-line-spec : {M : Type 1} → statement M
+write-line-spec = tie.close (tie.spec slice-aggregate-write-all write-all-requires returns)
