@@ -1,0 +1,117 @@
+// The public calls for C and Rust. Nothing is asked of a caller but what the types say.
+use bench::viewer::Memory;
+ghost use mathlib.Core.Path.{_≡_};
+ghost use mathlib.Core.List.{[], _∷_};
+ghost use lib.Dec.{eqb};
+ghost use lib.ListN.{length};
+ghost use Rattle.rules.specs.Machine.{pick};
+ghost use Rattle.rules.specs.Calls.{run, stepBack};
+ghost use Rattle.bench.specs.Told.{lent, outcome, stepping};
+ghost use Rattle.export.specs.Heard.{heard, counted, bytesOf, shown, named, spot};
+
+// ---- steps
+
+// The four numbers in their order.
+fn tell(out: &mut [u64; 4], pc: u16, used: usize, steps: u64, stores: u64)
+    ensures { λ _. ⌜ now (out .exit) ≡ pc ∷ used ∷ steps ∷ stores ∷ [] ⌝ }
+{
+    *out = [pc as u64, used as u64, steps, stores];
+}
+
+// A call that was done is one step.
+fn steps_of(answer: u8) -> u64
+    ensures { λ r. ⌜ r ≡ pick (eqb answer 0) 1 0 ⌝ }
+{
+    if answer == 0 { 1 } else { 0 }
+}
+
+#[no_mangle]
+pub extern "C" fn argolythe_step(
+    image: &[u8],
+    pad: &mut [u8],
+    vdp: &mut [u8],
+    reg: &mut [u8],
+    journal: &mut [u32],
+    pc: u16,
+    used: usize,
+    out: &mut [u64; 4],
+) -> u8
+    ensures { λ r. ⌜ heard (now (pad .exit)) (now (vdp .exit)) (now (reg .exit)) (now (journal .exit)) r (now (out .exit)) ≡ counted (stepping (now (image .entry)) (lent (now (pad .entry)) (now (vdp .entry)) (now (reg .entry)) (now (journal .entry)) pc used)) ⌝ }
+{
+    let r = bench::walk::step(image, pad, vdp, reg, journal, pc, used);
+    let steps = steps_of(r.answer);
+    tell(out, r.pc, r.used, steps, r.stores);
+    r.answer
+}
+
+// Up to n steps.
+#[no_mangle]
+pub extern "C" fn argolythe_run(
+    image: &[u8],
+    pad: &mut [u8],
+    vdp: &mut [u8],
+    reg: &mut [u8],
+    journal: &mut [u32],
+    pc: u16,
+    used: usize,
+    n: u32,
+    out: &mut [u64; 4],
+) -> u8
+    ensures { λ r. ⌜ heard (now (pad .exit)) (now (vdp .exit)) (now (reg .exit)) (now (journal .exit)) r (now (out .exit)) ≡ run n (now (image .entry)) (lent (now (pad .entry)) (now (vdp .entry)) (now (reg .entry)) (now (journal .entry)) pc used) ⌝ }
+{
+    let r = bench::runs::run(image, pad, vdp, reg, journal, pc, used, n);
+    let steps = r.steps as u64;
+    tell(out, r.pc, r.used, steps, r.stores);
+    r.answer
+}
+
+// One step back: `steps` says whether one was taken back, and no stores are counted.
+#[no_mangle]
+pub extern "C" fn argolythe_step_back(
+    pad: &mut [u8],
+    vdp: &mut [u8],
+    reg: &mut [u8],
+    journal: &mut [u32],
+    pc: u16,
+    used: usize,
+    out: &mut [u64; 4],
+) -> u8
+    ensures { λ r. ⌜ heard (now (pad .exit)) (now (vdp .exit)) (now (reg .exit)) (now (journal .exit)) r (now (out .exit)) ≡ counted (outcome (stepBack (lent (now (pad .entry)) (now (vdp .entry)) (now (reg .entry)) (now (journal .entry)) pc used)) 0) ⌝ }
+{
+    let r = bench::walk::step_back(pad, vdp, reg, journal, pc, used);
+    let steps = steps_of(r.answer);
+    tell(out, r.pc, r.used, steps, r.stores);
+    r.answer
+}
+
+// ---- the viewer
+
+// How many bytes the viewer shows of a memory.
+fn seen<'a>(pad: &'a [u8], vdp: &'a [u8], memory: u8, at: usize, len: usize) -> usize
+    ensures { λ r. ⌜ r ≡ length (shown memory (now (pad .entry)) (now (vdp .entry)) at len) ⌝ }
+{
+    if memory == 0 {
+        return bench::viewer::view(pad, vdp, Memory::Cpu, at, len).len();
+    }
+    if memory == 1 {
+        return bench::viewer::view(pad, vdp, Memory::Vdp, at, len).len();
+    }
+    0
+}
+
+// A length, 0 where nothing is shown, and an offset into the caller's own bytes.
+#[no_mangle]
+pub extern "C" fn argolythe_view<'a>(
+    pad: &'a [u8],
+    vdp: &'a [u8],
+    memory: u8,
+    at: usize,
+    len: usize,
+    offset: &mut usize,
+) -> usize
+    ensures { λ r. ⌜ (named (now (offset .exit)) r (bytesOf memory (now (pad .entry)) (now (vdp .entry))) ≡ shown memory (now (pad .entry)) (now (vdp .entry)) at len) × (now (offset .exit) ∷ r ∷ [] ≡ spot at (shown memory (now (pad .entry)) (now (vdp .entry)) at len)) ⌝ }
+{
+    let n = seen(pad, vdp, memory, at, len);
+    *offset = if n == 0 { 0 } else { at };
+    n
+}

@@ -1,0 +1,129 @@
+/* Runs four instructions to their end, looks at what they left, and walks back to the start. */
+#include "argolythe.h"
+#include <stdio.h>
+
+/* One machine. All of it is the host's own memory, lent to each call. */
+static uint8_t image[ARGOLYTHE_GROUP] = {
+    0xBE, 0x10, 0x2A,       /* 0000  ST   >2A to pad >10 */
+    0x90, 0x10,             /* 0003  INC  pad >10 */
+    0x94, 0x10,             /* 0005  INCT pad >10 */
+    0xBE, 0xA1, 0x00, 0x41, /* 0007  ST   >41 to VDP >0100 */
+    0x0B,                   /* 000B  EXIT */
+};
+static uint8_t pad[ARGOLYTHE_PAD];
+static uint8_t vdp[ARGOLYTHE_VDP];
+static uint8_t reg[ARGOLYTHE_REG];
+static uint32_t journal[64];
+static uint16_t pc;
+static size_t used;
+
+static int wrong; /* how many things were not as expected */
+
+static void expect(int holds, const char *what)
+{
+    if (!holds) {
+        printf("  NOT AS EXPECTED: %s\n", what);
+        wrong += 1;
+    }
+}
+
+/* What a call leaves is where the next one starts. */
+static void keep(const uint64_t *out)
+{
+    pc = (uint16_t)out[ARGOLYTHE_OUT_PC];
+    used = (size_t)out[ARGOLYTHE_OUT_USED];
+}
+
+static uint8_t run(uint32_t n, uint64_t *out)
+{
+    uint8_t answer = argolythe_run(image, sizeof image, pad, sizeof pad, vdp, sizeof vdp,
+                                   reg, sizeof reg, journal, 64, pc, used, n, out);
+    keep(out);
+    return answer;
+}
+
+static uint8_t step(uint64_t *out)
+{
+    uint8_t answer = argolythe_step(image, sizeof image, pad, sizeof pad, vdp, sizeof vdp,
+                                    reg, sizeof reg, journal, 64, pc, used, out);
+    keep(out);
+    return answer;
+}
+
+static uint8_t step_back(uint64_t *out)
+{
+    uint8_t answer = argolythe_step_back(pad, sizeof pad, vdp, sizeof vdp, reg, sizeof reg,
+                                         journal, 64, pc, used, out);
+    keep(out);
+    return answer;
+}
+
+/* The byte at an address, or -1 where none can be seen. */
+static int see(uint8_t memory, size_t at)
+{
+    size_t offset;
+    if (argolythe_view(pad, sizeof pad, vdp, sizeof vdp, memory, at, 1, &offset) != 1) {
+        return -1;
+    }
+    return memory == ARGOLYTHE_SEE_CPU ? pad[offset] : vdp[offset];
+}
+
+static void to_the_end(void)
+{
+    uint64_t out[ARGOLYTHE_OUTS];
+    uint8_t answer = run(100, out);
+    printf("A run of up to 100 steps from pc 0000 answers %d (1: ended, at EXIT).\n", answer);
+    printf("It did %d steps, which stored %d bytes; pc is %04X, and the journal uses %d words.\n",
+           (int)out[ARGOLYTHE_OUT_STEPS], (int)out[ARGOLYTHE_OUT_STORES], pc, (int)used);
+    expect(answer == ARGOLYTHE_ENDED, "the answer is 1");
+    expect(out[ARGOLYTHE_OUT_STEPS] == 4, "4 steps");
+    expect(out[ARGOLYTHE_OUT_STORES] == 6, "6 stores: INC and INCT store the status too");
+    expect(pc == 0x000B, "pc is on EXIT");
+    expect(used == 10, "one word for each step and one for each store");
+}
+
+static void look(void)
+{
+    printf("Pad >10 holds %02X and VDP >0100 holds %02X.\n",
+           (unsigned)see(ARGOLYTHE_SEE_CPU, 0x10), (unsigned)see(ARGOLYTHE_SEE_VDP, 0x100));
+    expect(see(ARGOLYTHE_SEE_CPU, 0x10) == 0x2D, "pad >10 holds 2D");
+    expect(see(ARGOLYTHE_SEE_VDP, 0x100) == 0x41, "VDP >0100 holds 41");
+    expect(see(ARGOLYTHE_SEE_CPU, ARGOLYTHE_PAD_REACH) == -1, "pad >E0 cannot be seen");
+    expect(see(2, 0) == -1, "there is no memory 2");
+}
+
+static void past_the_end(void)
+{
+    uint64_t out[ARGOLYTHE_OUTS];
+    uint8_t answer = step(out);
+    printf("A step more answers %d and does %d steps.\n", answer, (int)out[ARGOLYTHE_OUT_STEPS]);
+    expect(answer == ARGOLYTHE_ENDED && out[ARGOLYTHE_OUT_STEPS] == 0 && pc == 0x000B,
+           "a refused step changes nothing");
+}
+
+static void back_to_the_start(void)
+{
+    static const uint16_t stops[] = {0x0007, 0x0005, 0x0003, 0x0000};
+    uint64_t out[ARGOLYTHE_OUTS];
+    for (int i = 0; i < 4; i += 1) {
+        uint8_t answer = step_back(out);
+        printf("A step back answers %d: pc is %04X, pad >10 holds %02X.\n", answer, pc,
+               (unsigned)see(ARGOLYTHE_SEE_CPU, 0x10));
+        expect(answer == ARGOLYTHE_DONE && pc == stops[i], "the step before it");
+    }
+    uint8_t answer = step_back(out);
+    printf("One more answers %d (12: no step is left to take back).\n", answer);
+    expect(answer == ARGOLYTHE_NO_RECORD, "the answer is 12");
+    expect(see(ARGOLYTHE_SEE_CPU, 0x10) == 0 && see(ARGOLYTHE_SEE_VDP, 0x100) == 0 && used == 0,
+           "all is as it was at first");
+}
+
+int main(void)
+{
+    to_the_end();
+    look();
+    past_the_end();
+    back_to_the_start();
+    printf(wrong ? "Something was not as expected.\n" : "All as expected.\n");
+    return wrong ? 1 : 0;
+}

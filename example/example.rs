@@ -1,0 +1,81 @@
+// The same library from Rust: a slice is a pointer and a length. One step, and one back.
+extern "C" {
+    #[rustfmt::skip]
+    fn argolythe_step(
+        image: *const u8, image_len: usize, pad: *mut u8, pad_len: usize,
+        vdp: *mut u8, vdp_len: usize, reg: *mut u8, reg_len: usize,
+        journal: *mut u32, journal_len: usize, pc: u16, used: usize, out: *mut u64,
+    ) -> u8;
+    #[rustfmt::skip]
+    fn argolythe_step_back(
+        pad: *mut u8, pad_len: usize, vdp: *mut u8, vdp_len: usize,
+        reg: *mut u8, reg_len: usize, journal: *mut u32, journal_len: usize,
+        pc: u16, used: usize, out: *mut u64,
+    ) -> u8;
+}
+
+struct Machine {
+    pad: [u8; 256],
+    vdp: Vec<u8>,
+    reg: [u8; 8],
+    journal: Vec<u32>,
+    pc: u16,
+    used: usize,
+}
+
+impl Machine {
+    // What a call leaves is where the next one starts.
+    fn keep(&mut self, out: [u64; 4]) {
+        self.pc = out[0] as u16;
+        self.used = out[1] as usize;
+    }
+
+    fn step(&mut self, image: &[u8]) -> u8 {
+        let mut out = [0; 4];
+        // Each pointer goes with its own length, and distinct fields do not overlap.
+        #[rustfmt::skip]
+        let answer = unsafe {
+            argolythe_step(
+                image.as_ptr(), image.len(), self.pad.as_mut_ptr(), self.pad.len(),
+                self.vdp.as_mut_ptr(), self.vdp.len(), self.reg.as_mut_ptr(), self.reg.len(),
+                self.journal.as_mut_ptr(), self.journal.len(), self.pc, self.used, out.as_mut_ptr(),
+            )
+        };
+        self.keep(out);
+        answer
+    }
+
+    fn step_back(&mut self) -> u8 {
+        let mut out = [0; 4];
+        // As above.
+        #[rustfmt::skip]
+        let answer = unsafe {
+            argolythe_step_back(
+                self.pad.as_mut_ptr(), self.pad.len(), self.vdp.as_mut_ptr(), self.vdp.len(),
+                self.reg.as_mut_ptr(), self.reg.len(), self.journal.as_mut_ptr(), self.journal.len(),
+                self.pc, self.used, out.as_mut_ptr(),
+            )
+        };
+        self.keep(out);
+        answer
+    }
+}
+
+fn main() {
+    let mut image = vec![0; 8192];
+    image[..3].copy_from_slice(&[0xBE, 0x10, 0x2A]); // ST >2A to pad >10
+    let mut m = Machine {
+        pad: [0; 256],
+        vdp: vec![0; 16384],
+        reg: [0; 8],
+        journal: vec![0; 64],
+        pc: 0,
+        used: 0,
+    };
+    let forth = m.step(&image);
+    println!("From Rust, a step answers {forth}: pc is {:04X}, pad >10 holds {:02X}.", m.pc, m.pad[0x10]);
+    assert!(forth == 0 && m.pc == 3 && m.pad[0x10] == 0x2A && m.used == 2);
+    let back = m.step_back();
+    println!("A step back answers {back}: pc is {:04X}, pad >10 holds {:02X}.", m.pc, m.pad[0x10]);
+    assert!(back == 0 && m.pc == 0 && m.pad[0x10] == 0 && m.used == 0);
+}

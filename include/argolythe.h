@@ -1,0 +1,138 @@
+/* Argolythe for C11 and C++: steps, runs, steps back and the viewer.
+ *
+ * Link `libexport.a`, which `rt staticlib export` writes to target/staticlib/, for x86-64 Linux.
+ *
+ * What the library promises is proved: each call ends, touches nothing beyond what it is lent, and
+ * leaves what the rules give (crates/export/src/lib.rt has the contracts, crates/export/specs/
+ * how the numbers here are read). What a caller owes is checked by nothing:
+ *
+ * - Each pointer is valid for as many elements as its length says, which are initialised, and is
+ *   aligned for its type. That holds for the call alone: nothing is kept when it returns.
+ * - A pointer to const is only read. Any other is read and written.
+ * - No two things lent to one call overlap, `out` and `offset` among them, except that two const
+ *   ones may. No other thread writes what is lent const, or touches what is not, until the call
+ *   returns.
+ * - No pointer is NULL, also where its length is 0: a journal of 0 words is any aligned pointer
+ *   with the length 0. No object is larger than PTRDIFF_MAX bytes.
+ *
+ * No length is a duty: a part of another length is answered by 11, before anything is touched.
+ *
+ * The library has no state, makes no system call and uses no heap, so calls on different machines
+ * may run at the same time on different threads. It calls nothing outside itself.
+ *
+ * A call needs less than 2 KiB of stack, whatever it is lent and however many steps it makes. The
+ * compiled functions do not call themselves, none has a frame of variable size, and the deepest
+ * chain of calls, argolythe_run's, takes at most 1,392 bytes: every push and every subtraction from
+ * the stack pointer in its functions, and the return addresses. The 128 bytes below the stack
+ * pointer that x86-64 leaves to a function come on top. This is read off the archive, not proved.
+ *
+ * From Rust, each slice is two arguments here as well:
+ *
+ *     extern "C" {
+ *         fn argolythe_step_back(
+ *             pad: *mut u8, pad_len: usize, vdp: *mut u8, vdp_len: usize,
+ *             reg: *mut u8, reg_len: usize, journal: *mut u32, journal_len: usize,
+ *             pc: u16, used: usize, out: *mut u64,
+ *         ) -> u8;
+ *     }
+ */
+#ifndef ARGOLYTHE_H
+#define ARGOLYTHE_H
+
+#include <stddef.h>
+#include <stdint.h>
+
+#ifdef __cplusplus
+extern "C" {
+#endif
+
+/* ---- what is lent, in elements */
+
+#define ARGOLYTHE_GROUP 8192          /* bytes of a GROM group; an image is 1 to 8 of them */
+#define ARGOLYTHE_IMAGE_MAX 65536     /* bytes */
+#define ARGOLYTHE_PAD 256             /* bytes of CPU RAM, of which >00 to >DF can be reached */
+#define ARGOLYTHE_PAD_REACH 224       /* bytes */
+#define ARGOLYTHE_VDP 16384           /* bytes of VDP RAM */
+#define ARGOLYTHE_REG 8               /* bytes: the VDP's registers */
+#define ARGOLYTHE_JOURNAL_MAX 1048576 /* 32-bit words; a journal has 0 to this many */
+
+/* ---- what a call answers */
+
+enum argolythe_answer {
+    ARGOLYTHE_DONE = 0,
+    ARGOLYTHE_ENDED = 1,           /* opcode >0B (EXIT): nothing changes, pc stays on it */
+    ARGOLYTHE_NO_INSTRUCTION = 2,  /* no such instruction */
+    ARGOLYTHE_NEEDS_HOST = 3,      /* >03, >0F, >F4 to >F7 */
+    ARGOLYTHE_OFF_CPU = 4,         /* CPU offset above >DF, or a format operand in VDP RAM */
+    ARGOLYTHE_OFF_VDP = 5,         /* VDP address above >3FFF */
+    ARGOLYTHE_OFF_IMAGE = 6,       /* GROM address beyond the image */
+    ARGOLYTHE_OFF_STACK = 7,       /* stack pointer out of its area */
+    ARGOLYTHE_FORMAT_TOO_LONG = 8, /* a 16,385th format code in one FMT */
+    ARGOLYTHE_OFF_SCREEN = 9,      /* screen position outside VDP RAM */
+    ARGOLYTHE_NO_ROOM = 10,        /* no journal word left */
+    ARGOLYTHE_WRONG_LENGTH = 11,   /* a lent part has a wrong length, or used exceeds the journal */
+    ARGOLYTHE_NO_RECORD = 12,      /* step_back finds no sound record */
+    ARGOLYTHE_OFF_REGISTERS = 13   /* VDP register above 7 */
+};
+
+/* ---- what comes out: four numbers, whatever the answer */
+
+enum argolythe_out {
+    ARGOLYTHE_OUT_PC = 0,     /* pc for the next call; that of this call if a step was refused */
+    ARGOLYTHE_OUT_USED = 1,   /* used journal words for the next call */
+    ARGOLYTHE_OUT_STEPS = 2,  /* how many steps were done, or taken back */
+    ARGOLYTHE_OUT_STORES = 3, /* how many bytes these steps stored; 0 for a step back */
+    ARGOLYTHE_OUTS = 4
+};
+
+/* ---- the calls
+ *
+ * image, pad, vdp, reg and journal are each a pointer and a length in elements. pc is the GROM
+ * address of the next instruction. used says how many words of the journal are in use, from its
+ * start: 0 for an empty one, and then what the last call left in out. The host may write pad, vdp
+ * and reg between calls; a step back then puts back the bytes that its step had found.
+ * A call that answers 11 or 12 touches only out. A refused step puts all back, and zeroes the
+ * journal words that it had begun to use. */
+
+/* One step. */
+uint8_t argolythe_step(const uint8_t *image, size_t image_len,
+                       uint8_t *pad, size_t pad_len,
+                       uint8_t *vdp, size_t vdp_len,
+                       uint8_t *reg, size_t reg_len,
+                       uint32_t *journal, size_t journal_len,
+                       uint16_t pc, size_t used,
+                       uint64_t out[ARGOLYTHE_OUTS]);
+
+/* Up to n steps, to the first answer other than 0. The numbers are those of the steps done before
+ * it. With n = 0 it answers 0 or 11. */
+uint8_t argolythe_run(const uint8_t *image, size_t image_len,
+                      uint8_t *pad, size_t pad_len,
+                      uint8_t *vdp, size_t vdp_len,
+                      uint8_t *reg, size_t reg_len,
+                      uint32_t *journal, size_t journal_len,
+                      uint16_t pc, size_t used, uint32_t n,
+                      uint64_t out[ARGOLYTHE_OUTS]);
+
+/* The newest step in the journal, taken back: 0, 11 or 12. */
+uint8_t argolythe_step_back(uint8_t *pad, size_t pad_len,
+                            uint8_t *vdp, size_t vdp_len,
+                            uint8_t *reg, size_t reg_len,
+                            uint32_t *journal, size_t journal_len,
+                            uint16_t pc, size_t used,
+                            uint64_t out[ARGOLYTHE_OUTS]);
+
+enum argolythe_memory { ARGOLYTHE_SEE_CPU = 0, ARGOLYTHE_SEE_VDP = 1 };
+
+/* How many bytes can be seen of a memory at an address: len, or 0 unless all of them lie in reach,
+ * in memories of the right length. Those bytes are the caller's own, from pad + *offset or
+ * vdp + *offset on. *offset is 0 where none can be seen. Any other memory has none. */
+size_t argolythe_view(const uint8_t *pad, size_t pad_len,
+                      const uint8_t *vdp, size_t vdp_len,
+                      uint8_t memory, size_t at, size_t len,
+                      size_t *offset);
+
+#ifdef __cplusplus
+}
+#endif
+
+#endif
