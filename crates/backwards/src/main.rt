@@ -1,0 +1,89 @@
+// A walk backwards: a cartridge runs into an instruction that fails, and is then stepped back to its start, with pc and a viewed cell at each step.
+use bench::viewer::Memory;
+use lines::parts::Part;
+ghost use mathlib.Core.Path.{_≡_};
+ghost use lib.ListN.{length};
+
+// ST 5 to pad >00; CALL >000A; ST to pad >E0, out of reach. At >000A: ADD 3, INC, RTN.
+const CODE: [u8; 16] = [
+    0xBE,
+    0x00,
+    0x05,
+    0x06,
+    0x00,
+    0x0A,
+    0xBC,
+    0x80,
+    0xE0,
+    0x00,
+    0xA2,
+    0x00,
+    0x03,
+    0x90,
+    0x00,
+    0x00,
+];
+
+// pc, and pad >00 as the viewer shows it.
+fn show_place<'a>(pad: &'a [u8], vram: &'a [u8], pc: u16) {
+    desk::show::show_pc(pc);
+    let cell = bench::viewer::view(pad, vram, Memory::Cpu, 0, 1);
+    if cell.len() == 1 {
+        desk::show::show_cell(Part::Pad, 0, cell[0]);
+    }
+}
+
+// Back as many steps as were made, and once more: 12, since no step is left.
+fn walk_back(
+    pad: &mut [u8],
+    vram: &mut [u8],
+    regs: &mut [u8],
+    journal: &mut [u32],
+    from: u16,
+    words: usize,
+    steps: u32,
+) {
+    let mut pc = from;
+    let mut used = words;
+    let mut left = steps;
+    while left > 0 {
+        let r = bench::walk::step_back(pad, vram, regs, journal, pc, used);
+        pc = r.pc;
+        used = r.used;
+        show_place(pad, vram, pc);
+        left -= 1;
+    }
+    let last = bench::walk::step_back(pad, vram, regs, journal, pc, used);
+    desk::show::show_answer(last.answer, 0, last.stores);
+}
+
+fn main() {
+    let mut image = [0u8; 8192];
+    let mut pad = [0u8; 256];
+    let mut vram = [0u8; 16384];
+    let mut regs = [0u8; 8];
+    let mut journal = [0u32; 64];
+    bytes::copy(&CODE, &mut image);
+    pad[0x73] = 0x7E;
+    let r = bench::runs::run(
+        &image,
+        &mut pad,
+        &mut vram,
+        &mut regs,
+        &mut journal,
+        0,
+        0,
+        100,
+    );
+    desk::show::show_answer(r.answer, r.steps, r.stores);
+    show_place(&pad, &vram, r.pc);
+    walk_back(
+        &mut pad,
+        &mut vram,
+        &mut regs,
+        &mut journal,
+        r.pc,
+        r.used,
+        r.steps,
+    );
+}

@@ -1,0 +1,65 @@
+// What the program can't show: an image of one group, parts of a wrong length, a journal with no room, and no step to take back.
+use lines::parts::Part;
+
+// MOVE from GROM 0 to VDP 0: >8000 bytes, and >8001, which moves one.
+const MOVE_8000: [u8; 7] = [0x31, 0x80, 0x00, 0xA0, 0x00, 0x00, 0x00];
+
+const MOVE_8001: [u8; 7] = [0x31, 0x80, 0x01, 0xA0, 0x00, 0x00, 0x00];
+
+// One step, and what it leaves of a machine that has only its subroutine stack set.
+fn try_step(what: &[u8], image: &[u8], journal: &mut [u32], used: usize) {
+    let mut was = [0u8; 256];
+    let mut pad = [0u8; 256];
+    let none = [0u8; 16384];
+    let mut vram = [0u8; 16384];
+    let mut regs = [0u8; 8];
+    was[0x73] = 0x7E;
+    pad[0x73] = 0x7E;
+    let r = bench::runs::run(image, &mut pad, &mut vram, &mut regs, journal, 0, used, 1);
+    io::write_all(1, what);
+    desk::show::show_answer(r.answer, r.steps, r.stores);
+    desk::show::show_pc(r.pc);
+    desk::show::show_changed(Part::Pad, &was, &pad);
+    desk::show::show_changed(Part::Vdp, &none, &vram);
+}
+
+fn try_step_back(what: &[u8]) {
+    let mut pad = [0u8; 256];
+    let mut vram = [0u8; 16384];
+    let mut regs = [0u8; 8];
+    let mut journal = [0u32; 8];
+    let r = bench::walk::step_back(&mut pad, &mut vram, &mut regs, &mut journal, 0x1234, 0);
+    io::write_all(1, what);
+    desk::show::show_answer(r.answer, 0, r.stores);
+    desk::show::show_pc(r.pc);
+}
+
+fn main() {
+    let mut image = [0u8; 8192];
+    let mut journal = [0u32; 16384];
+    let mut word = [0u32; 1];
+    let short = [0u8; 8191];
+    bytes::copy(&MOVE_8000, &mut image);
+    try_step(
+        b"one group, >8000 bytes: beyond the image\n",
+        &image,
+        &mut journal,
+        0,
+    );
+    bytes::copy(&MOVE_8001, &mut image);
+    try_step(
+        b"one group, >8001 bytes: one is moved\n",
+        &image,
+        &mut journal,
+        0,
+    );
+    try_step(
+        b"an image that is no whole group\n",
+        &short,
+        &mut journal,
+        0,
+    );
+    try_step(b"used exceeds the journal\n", &image, &mut word, 2);
+    try_step(b"a journal of one word\n", &image, &mut word, 0);
+    try_step_back(b"no step to take back\n");
+}
