@@ -7,9 +7,9 @@ ghost use mathlib.Core.List.{List};
 ghost use Prim.Native.Nat.{ℕ};
 ghost use lib.ListN.{length};
 ghost use Rattle.rules.specs.Rules.{after, valued};
-ghost use Rattle.rules.specs.Machine.{register};
+ghost use Rattle.rules.specs.Machine.{cpu, register, vdp};
 ghost use Rattle.rules.specs.Operands.{cell, past};
-ghost use Rattle.rules.specs.Instructions.{sourceByte, registerOne, moveByte};
+ghost use Rattle.rules.specs.Instructions.{sourceByte, registerOne, moveByte, fromGrom, fromCell};
 ghost use Rattle.rules.specs.Instructions;
 ghost use Rattle.machine.specs.Said.{out};
 ghost use Rattle.block.specs.Ends.{targetOf, originOf};
@@ -106,4 +106,52 @@ pub fn move_byte(
 {
     let b = source_byte(image, pad, vram, m, from, k);
     deliver(pad, vram, regs, journal, b, to, k, b.byte)
+}
+
+// From GROM to VDP RAM.
+pub fn grom_to_vdp(
+    image: &[u8],
+    vram: &mut [u8],
+    journal: &mut [u32],
+    m: Now,
+    a: u16,
+    t: u16,
+    k: u16,
+) -> Now
+    requires { ⌜ length (now vram) ≡ 16384 ⌝ }
+    ensures { λ r. ⌜ ((p g : List ℕ) → out p (now (vram .exit)) g (now (journal .exit)) r ≡ after (now (image .entry)) (out p (now (vram .entry)) g (now (journal .entry)) m) (moveByte (fromGrom a) (cell vdp t) k)) ⌝ }
+{
+    let b = machine::grom::grom_byte(image, m, number::addresses::plus(a, k));
+    let at = t as usize + k as usize;
+    machine::vdp::poke_vdp(vram, journal, b, at, b.byte)
+}
+
+// From the pad to VDP RAM.
+pub fn pad_to_vdp(
+    pad: &[u8],
+    vram: &mut [u8],
+    journal: &mut [u32],
+    m: Now,
+    a: u16,
+    t: u16,
+    k: u16,
+) -> Now
+    requires { ⌜ (length (now pad) ≡ 256) × (length (now vram) ≡ 16384) ⌝ }
+    ensures { λ r. ⌜ ((i g : List ℕ) → out (now (pad .entry)) (now (vram .exit)) g (now (journal .exit)) r ≡ after i (out (now (pad .entry)) (now (vram .entry)) g (now (journal .entry)) m) (moveByte (fromCell (cell cpu a)) (cell vdp t) k)) ⌝ }
+{
+    let from = a as usize + k as usize;
+    let b = machine::pad::peek_pad(pad, m, from);
+    let at = t as usize + k as usize;
+    machine::vdp::poke_vdp(vram, journal, b, at, b.byte)
+}
+
+// Within VDP RAM.
+pub fn vdp_to_vdp(vram: &mut [u8], journal: &mut [u32], m: Now, a: u16, t: u16, k: u16) -> Now
+    requires { ⌜ length (now vram) ≡ 16384 ⌝ }
+    ensures { λ r. ⌜ ((i p g : List ℕ) → out p (now (vram .exit)) g (now (journal .exit)) r ≡ after i (out p (now (vram .entry)) g (now (journal .entry)) m) (moveByte (fromCell (cell vdp a)) (cell vdp t) k)) ⌝ }
+{
+    let from = a as usize + k as usize;
+    let b = machine::vdp::peek_vdp(vram, m, from);
+    let at = t as usize + k as usize;
+    machine::vdp::poke_vdp(vram, journal, b, at, b.byte)
 }

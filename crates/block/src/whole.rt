@@ -9,7 +9,9 @@ ghost use mathlib.Core.List.{List};
 ghost use Prim.Native.Nat.{ℕ};
 ghost use lib.ListN.{length};
 ghost use Rattle.rules.specs.Rules.{after};
-ghost use Rattle.rules.specs.Instructions.{moveCount, moveBytes, moveRule};
+ghost use Rattle.rules.specs.Machine.{cpu, vdp};
+ghost use Rattle.rules.specs.Operands.{cell};
+ghost use Rattle.rules.specs.Instructions.{moveCount, moveBytes, moveRule, fromGrom, fromCell};
 ghost use Rattle.machine.specs.Said.{out};
 ghost use Rattle.block.specs.Ends.{targetOf, originOf};
 
@@ -26,8 +28,73 @@ fn move_count(l: u16) -> u16
     1
 }
 
-// The bytes one by one, until one is refused.
-fn move_bytes(
+// From GROM to VDP RAM, in a loop of its own.
+fn grom_bytes(
+    image: &[u8],
+    vram: &mut [u8],
+    journal: &mut [u32],
+    m: Now,
+    n: u16,
+    a: u16,
+    t: u16,
+) -> Now
+    requires { ⌜ length (now vram) ≡ 16384 ⌝ }
+    ensures { λ r. ⌜ ((p g : List ℕ) → out p (now (vram .exit)) g (now (journal .exit)) r ≡ after (now (image .entry)) (out p (now (vram .entry)) g (now (journal .entry)) m) (moveBytes n 0 (fromGrom a) (cell vdp t))) ⌝ }
+{
+    let mut x = m;
+    let mut k: u16 = 0;
+    while k < n {
+        x = bytes::grom_to_vdp(image, vram, journal, x, a, t, k);
+        if x.answer != 0 {
+            return x;
+        }
+        k += 1;
+    }
+    x
+}
+
+fn pad_bytes(
+    pad: &[u8],
+    vram: &mut [u8],
+    journal: &mut [u32],
+    m: Now,
+    n: u16,
+    a: u16,
+    t: u16,
+) -> Now
+    requires { ⌜ (length (now pad) ≡ 256) × (length (now vram) ≡ 16384) ⌝ }
+    ensures { λ r. ⌜ ((i g : List ℕ) → out (now (pad .entry)) (now (vram .exit)) g (now (journal .exit)) r ≡ after i (out (now (pad .entry)) (now (vram .entry)) g (now (journal .entry)) m) (moveBytes n 0 (fromCell (cell cpu a)) (cell vdp t))) ⌝ }
+{
+    let mut x = m;
+    let mut k: u16 = 0;
+    while k < n {
+        x = bytes::pad_to_vdp(pad, vram, journal, x, a, t, k);
+        if x.answer != 0 {
+            return x;
+        }
+        k += 1;
+    }
+    x
+}
+
+fn vdp_bytes(vram: &mut [u8], journal: &mut [u32], m: Now, n: u16, a: u16, t: u16) -> Now
+    requires { ⌜ length (now vram) ≡ 16384 ⌝ }
+    ensures { λ r. ⌜ ((i p g : List ℕ) → out p (now (vram .exit)) g (now (journal .exit)) r ≡ after i (out p (now (vram .entry)) g (now (journal .entry)) m) (moveBytes n 0 (fromCell (cell vdp a)) (cell vdp t))) ⌝ }
+{
+    let mut x = m;
+    let mut k: u16 = 0;
+    while k < n {
+        x = bytes::vdp_to_vdp(vram, journal, x, a, t, k);
+        if x.answer != 0 {
+            return x;
+        }
+        k += 1;
+    }
+    x
+}
+
+// Any other way.
+fn any_bytes(
     image: &[u8],
     pad: &mut [u8],
     vram: &mut [u8],
@@ -51,6 +118,31 @@ fn move_bytes(
         k += 1;
     }
     x
+}
+
+// The bytes one by one, until one is refused. What goes to VDP RAM has loops of its own.
+fn move_bytes(
+    image: &[u8],
+    pad: &mut [u8],
+    vram: &mut [u8],
+    regs: &mut [u8],
+    journal: &mut [u32],
+    m: Now,
+    n: u16,
+    from: Origin,
+    to: Target,
+) -> Now
+    requires { ⌜ (length (now pad) ≡ 256) × (length (now vram) ≡ 16384) × (length (now regs) ≡ 8) ⌝ }
+    ensures { λ r. ⌜ out (now (pad .exit)) (now (vram .exit)) (now (regs .exit)) (now (journal .exit)) r ≡ after (now (image .entry)) (out (now (pad .entry)) (now (vram .entry)) (now (regs .entry)) (now (journal .entry)) m) (moveBytes n 0 (originOf from) (targetOf to)) ⌝ }
+{
+    match to {
+        Target::Video(t) => match from {
+            Origin::Grom(a) => grom_bytes(image, vram, journal, m, n, a, t),
+            Origin::Cpu(a) => pad_bytes(pad, vram, journal, m, n, a, t),
+            Origin::Vdp(a) => vdp_bytes(vram, journal, m, n, a, t),
+        },
+        _ => any_bytes(image, pad, vram, regs, journal, m, n, from, to),
+    }
 }
 
 // By the low four bits of the opcode: 3 a register, 2 a source operand, 1 an index, 0 an immediate length.

@@ -25,6 +25,7 @@ fn steps_of(answer: u8) -> u64
     if answer == 0 { 1 } else { 0 }
 }
 
+// A run of one step: one machine code serves both.
 #[no_mangle]
 pub extern "C" fn argolythe_step(
     image: &[u8],
@@ -38,10 +39,7 @@ pub extern "C" fn argolythe_step(
 ) -> u8
     ensures { λ r. ⌜ heard (now (pad .exit)) (now (vdp .exit)) (now (reg .exit)) (now (journal .exit)) r (now (out .exit)) ≡ counted (stepping (now (image .entry)) (lent (now (pad .entry)) (now (vdp .entry)) (now (reg .entry)) (now (journal .entry)) pc used)) ⌝ }
 {
-    let r = bench::walk::step(image, pad, vdp, reg, journal, pc, used);
-    let steps = steps_of(r.answer);
-    tell(out, r.pc, r.used, steps, r.stores);
-    r.answer
+    argolythe_run(image, pad, vdp, reg, journal, pc, used, 1, out)
 }
 
 // Up to n steps.

@@ -3,6 +3,7 @@ use arith::effects::One;
 use arith::effects::Two;
 use flow::status::Test;
 ghost use mathlib.Core.Path.{_≡_};
+ghost use Prim.Native.Nat.{_≤_};
 ghost use Rattle.rules.specs.Machine.{pick};
 ghost use Rattle.rules.specs.Answers.{noSuch};
 ghost use Rattle.rules.specs.Opcodes;
@@ -209,10 +210,32 @@ fn two_class(row: u8, imm: bool, wide: bool) -> Class
     }
 }
 
-// By ranges, in the order of the rule's own tests.
+// >80 to >FF, by ranges, in the order of the rule's own tests.
+fn upper_class(op: u8) -> Class
+    requires { ⌜ 0x80 ≤ op ⌝ }
+    ensures { λ r. ⌜ meant r ≡ said (classOf op) ⌝ }
+{
+    if op < 0xA0 {
+        let row = (op - 0x80) / 2;
+        return one_class(row, number::bits::bit(0, op));
+    }
+    if op < 0xF4 {
+        let row = (op - 0xA0) / 4;
+        return two_class(row, number::bits::bit(1, op), number::bits::bit(0, op));
+    }
+    if op < 0xF8 {
+        return Class::Stops(NEEDS_HOST);
+    }
+    Class::Stops(NO_SUCH)
+}
+
+// The upper half first, which has most of the instructions; then by ranges, in the order of the rule's own tests.
 pub fn class_of(op: u8) -> Class
     ensures { λ r. ⌜ meant r ≡ said (classOf op) ⌝ }
 {
+    if 0x80 <= op {
+        return upper_class(op);
+    }
     if op < 0x10 {
         return low_class(op);
     }
@@ -228,22 +251,8 @@ pub fn class_of(op: u8) -> Class
             upper: op % 32,
         });
     }
-    if op < 0x80 {
-        return Class::Does(Task::Branch {
-            set: true,
-            upper: op % 32,
-        });
-    }
-    if op < 0xA0 {
-        let row = (op - 0x80) / 2;
-        return one_class(row, number::bits::bit(0, op));
-    }
-    if op < 0xF4 {
-        let row = (op - 0xA0) / 4;
-        return two_class(row, number::bits::bit(1, op), number::bits::bit(0, op));
-    }
-    if op < 0xF8 {
-        return Class::Stops(NEEDS_HOST);
-    }
-    Class::Stops(NO_SUCH)
+    Class::Does(Task::Branch {
+        set: true,
+        upper: op % 32,
+    })
 }

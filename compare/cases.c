@@ -1,0 +1,866 @@
+/* Random cases for comparing two machines.
+
+   The image is a background of instructions made once from the seed; a case
+   writes its own code over a part of it and the next case takes that away
+   again.  The pad follows a plan, so that most operands name something:
+   >10 to >1F index words, >20 to >2F words that are VDP addresses, >30 to >3F
+   bytes that are pad offsets, >40 to >4F words that are lengths. */
+#include "cases.h"
+
+#include <string.h>
+
+enum {
+    INDEX_WORDS = 0x10,
+    ADDRESS_WORDS = 0x20,
+    OFFSET_BYTES = 0x30,
+    LENGTH_WORDS = 0x40
+};
+
+/* Room in the journal that runs out about the end of an ALL. */
+enum { ALL_ROOM_LOW = 768, ALL_ROOM_HIGH = 772 };
+
+/* ---- random numbers: splitmix64 ---- */
+
+struct dice {
+    uint64_t state;
+};
+
+static uint64_t roll(struct dice *d)
+{
+    uint64_t z = (d->state += 0x9E3779B97F4A7C15u);
+    z = (z ^ z >> 30) * 0xBF58476D1CE4E5B9u;
+    z = (z ^ z >> 27) * 0x94D049BB133111EBu;
+    return z ^ z >> 31;
+}
+
+/* 0 to n - 1 */
+static uint32_t below(struct dice *d, uint32_t n)
+{
+    return (uint32_t)((roll(d) >> 32) * n >> 32);
+}
+
+static uint32_t between(struct dice *d, uint32_t low, uint32_t high)
+{
+    return low + below(d, high - low + 1);
+}
+
+static bool one_in(struct dice *d, uint32_t n)
+{
+    return below(d, n) == 0;
+}
+
+static bool percent(struct dice *d, uint32_t p)
+{
+    return below(d, 100) < p;
+}
+
+#define PICK(d, list) ((list)[below((d), (uint32_t)(sizeof(list) / sizeof((list)[0])))])
+
+/* ---- writing code ---- */
+
+struct writer {
+    struct maker *maker;
+    struct dice *dice;
+    const uint8_t *pad; /* the pad that the code will meet, or NULL */
+    size_t image_len;
+    bool keep_patches;
+    uint16_t at;
+    uint16_t label[CASE_LABELS_MAX];
+    int labels;
+};
+
+static void put_at(struct writer *w, uint32_t at, uint32_t byte)
+{
+    struct maker *m = w->maker;
+    at &= 0xFFFF;
+    if (w->keep_patches) {
+        if (m->patches == CASE_PATCHES_MAX)
+            return;
+        m->patch[m->patches++] = (struct patch){at, m->image[at]};
+    }
+    m->image[at] = (uint8_t)byte;
+}
+
+/* Writing goes on as reading does: inside its 8 KiB group. */
+static void put(struct writer *w, uint32_t byte)
+{
+    put_at(w, w->at, byte);
+    w->at = (uint16_t)((w->at & 0xE000) | ((w->at + 1) & 0x1FFF));
+}
+
+static void put_word(struct writer *w, uint32_t word)
+{
+    put(w, word >> 8 & 0xFF);
+    put(w, word & 0xFF);
+}
+
+static void add_label(struct writer *w)
+{
+    if (w->labels < CASE_LABELS_MAX)
+        w->label[w->labels++] = w->at;
+}
+
+/* ---- operands ---- */
+
+static uint32_t edge_byte(struct dice *d)
+{
+    static const uint8_t edges[] = {0, 1, 2, 3, 7, 8, 15, 16, 17, 0x7E, 0x7F, 0x80, 0x81, 0xF0, 0xFE, 0xFF};
+    return one_in(d, 2) ? PICK(d, edges) : below(d, 256);
+}
+
+static uint32_t edge_word(struct dice *d)
+{
+    static const uint16_t edges[] = {
+        0, 1, 2, 15, 16, 0x7F, 0x80, 0xFF, 0x100, 0x7FFE, 0x7FFF, 0x8000, 0x8001, 0xFF00, 0xFF80,
+        0xFFFE, 0xFFFF
+    };
+    return one_in(d, 2) ? PICK(d, edges) : below(d, 65536);
+}
+
+/* A pad offset that an operand may name. */
+static uint32_t cpu_target(struct dice *d, uint32_t width)
+{
+    static const uint8_t cells[] = {
+        0x72, 0x73, 0x78, 0x7B, 0x7C, 0x7D, 0x7E, 0x7F, 0x80, 0x9E, 0xA0, 0xBF, 0xC0, 0xC1, 0xD4
+    };
+    static const uint8_t screen_cells[] = {0x79, 0x7A, 0x7B, 0x7C, 0x7D, 0x7D, 0x7D, 0x7E};
+    static const uint16_t edges[] = {0xDD, 0xDE, 0xDF, 0xE0, 0xE1, 0xFF, 0x100, 0x17D, 0xEFF, 0xF00, 0xFFFF};
+    uint32_t r = below(d, 100);
+
+    if (r < 35)
+        return below(d, 16);
+    if (r < 55)
+        return between(d, 0x50, 0x6F);
+    if (r < 65)
+        return between(d, 0xA0, 0xDE);
+    if (r < 79)
+        return PICK(d, screen_cells);
+    if (r < 85)
+        return PICK(d, cells);
+    if (r < 96)
+        return below(d, 0xE1 - width);
+    return PICK(d, edges);
+}
+
+static uint32_t vdp_target(struct dice *d, uint32_t width)
+{
+    static const uint16_t edges[] = {
+        0, 0x2FF, 0x300, 0x1FFF, 0x2000, 0x3FFC, 0x3FFD, 0x3FFE, 0x3FFE, 0x3FFF, 0x3FFF, 0x4000,
+        0x4001, 0x7FFF, 0x8000, 0xFFFF
+    };
+    uint32_t r = below(d, 100);
+
+    if (r < 55)
+        return below(d, 768);
+    if (r < 88)
+        return below(d, 0x4001 - width);
+    return PICK(d, edges);
+}
+
+/* The index cell is named after the offset; the offset makes up for its word. */
+static void put_offset(struct writer *w, uint32_t bits, uint32_t offset)
+{
+    struct dice *d = w->dice;
+    uint32_t cell = 0, word = 0;
+
+    if (percent(d, 20)) {
+        static const uint8_t odd_cells[] = {0xDD, 0xDE, 0xDF, 0xE0, 0xFF, 0x7C, 0x7D, 0x72};
+        bits |= 0x40;
+        cell = percent(d, 4) ? PICK(d, odd_cells) : INDEX_WORDS + 2 * below(d, 8);
+        if (w->pad && cell < 0xFF)
+            word = (uint32_t)w->pad[cell] << 8 | w->pad[cell + 1];
+        offset = (offset - word) & 0xFFFF;
+    }
+    if (offset > 0xEFF || percent(d, 20)) {
+        put(w, 0x80 | bits | 0x0F);
+        put_word(w, offset);
+    } else {
+        put(w, 0x80 | bits | offset >> 8);
+        put(w, offset & 0xFF);
+    }
+    if (bits & 0x40)
+        put(w, cell);
+}
+
+/* The pad cell that the operand names, or -1 if that is not known here. */
+static int put_cpu_operand(struct writer *w, uint32_t target)
+{
+    static const uint16_t odd_pointers[] = {0xDF, 0xE0, 0x7D, 0x72, 0xFFF, 0xFFFF};
+    struct dice *d = w->dice;
+    uint32_t r = below(d, 100);
+
+    if (r < 6) { /* a pop */
+        put_offset(w, 0x10, 0x7C);
+        return -1;
+    }
+    if (r < 14) { /* indirect */
+        put_offset(w, 0x10, percent(d, 4) ? PICK(d, odd_pointers) : OFFSET_BYTES + below(d, 16));
+        return -1;
+    }
+    if (target < 0x80 && r < 75)
+        put(w, target);
+    else
+        put_offset(w, 0, target);
+    return target < 0xFF ? (int)target : -1;
+}
+
+static void put_vdp_operand(struct writer *w, uint32_t target)
+{
+    static const uint16_t odd_pointers[] = {0xDE, 0xDF, 0xE0, 0x7C, 0xFFF, 0xFFFF};
+    struct dice *d = w->dice;
+
+    if (percent(d, 25))
+        put_offset(w, 0x30, percent(d, 4) ? PICK(d, odd_pointers) : ADDRESS_WORDS + 2 * below(d, 8));
+    else
+        put_offset(w, 0x20, target);
+}
+
+static int put_operand(struct writer *w, uint32_t width)
+{
+    if (percent(w->dice, 22)) {
+        put_vdp_operand(w, vdp_target(w->dice, width));
+        return -1;
+    }
+    return put_cpu_operand(w, cpu_target(w->dice, width));
+}
+
+/* ---- branch targets ---- */
+
+static uint32_t some_address(struct writer *w)
+{
+    struct dice *d = w->dice;
+    uint32_t r = below(d, 100);
+
+    if (w->labels > 0 && r < 65)
+        return w->label[below(d, (uint32_t)w->labels)];
+    if (r < 90)
+        return below(d, (uint32_t)w->image_len);
+    if (r < 96) { /* about a group's end, the image's end included */
+        uint32_t end = CASE_GROUP_LEN * between(d, 1, (uint32_t)(w->image_len / CASE_GROUP_LEN));
+        return (end - 4 + below(d, 8)) & 0xFFFF;
+    }
+    return below(d, 65536);
+}
+
+/* ---- format strings ---- */
+
+static uint32_t short_count(struct dice *d)
+{
+    return percent(d, 90) ? below(d, 4) : below(d, 32);
+}
+
+static void put_format_codes(struct writer *w, int depth);
+
+static void put_block(struct writer *w, int depth)
+{
+    struct dice *d = w->dice;
+    uint16_t open = w->at;
+    put(w, 0xC0 | (percent(d, 95) ? below(d, 3) : below(d, 32)));
+    uint16_t body = w->at;
+    put_format_codes(w, depth - 1);
+    put(w, 0xFB);
+    if (percent(d, 92))
+        put_word(w, body);
+    else
+        put_word(w, percent(d, 40) ? open : some_address(w));
+}
+
+static void put_format_code(struct writer *w, int depth)
+{
+    struct dice *d = w->dice;
+    uint32_t r = below(d, 100);
+
+    if (r < 30) { /* text across and down */
+        uint32_t n = short_count(d);
+        put(w, (r < 15 ? 0x00 : 0x20) | n);
+        for (uint32_t i = 0; i <= n; i++)
+            put(w, below(d, 256));
+    } else if (r < 44) { /* repeated */
+        put(w, (r < 37 ? 0x40 : 0x60) | short_count(d));
+        put(w, below(d, 256));
+    } else if (r < 60) { /* skips */
+        put(w, (r < 52 ? 0x80 : 0xA0) | below(d, 32));
+    } else if (r < 74) {
+        if (depth > 0)
+            put_block(w, depth);
+    } else if (r < 84) { /* text from an operand */
+        uint32_t n = percent(d, 90) ? below(d, 4) : below(d, 27);
+        put(w, 0xE0 | n);
+        if (percent(d, 6))
+            put_vdp_operand(w, vdp_target(d, 1));
+        else
+            put_cpu_operand(w, cpu_target(d, 1));
+    } else if (r < 88) {
+        put(w, 0xFC);
+        put(w, below(d, 256));
+    } else if (r < 92) {
+        put(w, 0xFD);
+        if (percent(d, 6))
+            put_vdp_operand(w, vdp_target(d, 1));
+        else
+            put_cpu_operand(w, cpu_target(d, 1));
+    } else if (r < 96) {
+        put(w, 0xFE);
+        put(w, percent(d, 80) ? below(d, 26) : below(d, 256));
+    } else {
+        put(w, 0xFF);
+        put(w, percent(d, 80) ? below(d, 34) : below(d, 256));
+    }
+}
+
+static void put_format_codes(struct writer *w, int depth)
+{
+    uint32_t n = below(w->dice, 4);
+    for (uint32_t i = 0; i <= n; i++)
+        put_format_code(w, depth);
+}
+
+static void put_format(struct writer *w)
+{
+    struct dice *d = w->dice;
+
+    put(w, 0x08);
+    if (percent(d, 3)) { /* blocks down to the stack's limit */
+        uint32_t levels = between(d, 14, 18);
+        for (uint32_t i = 0; i < levels; i++)
+            put(w, 0xC0);
+        for (uint32_t i = 0; i < levels; i++) {
+            put(w, 0xFB);
+            put_word(w, w->at);
+        }
+    } else {
+        put_format_codes(w, 3);
+    }
+    if (percent(d, 98))
+        put(w, 0xFB);
+}
+
+/* A format string of 16,383 to 16,386 codes, in little space and with few
+   stores: 1 + 32 * (1 + 16 * (30 + 1) + 1) = 15,937 codes in two blocks,
+   then a tail.  With an outermost block the last code jumps past the image. */
+static void put_long_format(struct writer *w)
+{
+    struct dice *d = w->dice;
+    bool jump_out = one_in(d, 3) && w->image_len < CASE_IMAGE_MAX;
+    uint32_t codes = between(d, 16383, 16386);
+    uint32_t rest = codes - 15937 - 1 - (jump_out ? 1 : 0);
+
+    put(w, 0x08);
+    if (jump_out)
+        put(w, 0xC1);
+    put(w, 0xC0 | 31);
+    uint16_t outer = w->at;
+    put(w, 0xC0 | 15);
+    uint16_t inner = w->at;
+    for (int i = 0; i < 30; i++)
+        put_word(w, 0xFC00);
+    put(w, 0xFB);
+    put_word(w, inner);
+    put(w, 0xFB);
+    put_word(w, outer);
+    for (uint32_t i = 0; i < rest; i++) {
+        put(w, 0xFC);
+        put(w, below(d, 256));
+    }
+    put(w, 0xFB);
+    if (jump_out)
+        put_word(w, (uint32_t)w->image_len);
+}
+
+/* ---- MOVE ---- */
+
+static uint32_t some_length(struct dice *d)
+{
+    static const uint16_t edges[] = {
+        0, 0, 1, 2, 0x100, 0x2000, 0x4000, 0x4001, 0x7FFF, 0x8000, 0x8000, 0x8001, 0x8001, 0xFFFF
+    };
+    uint32_t r = below(d, 100);
+    if (r < 80)
+        return between(d, 1, 12);
+    if (r < 92)
+        return between(d, 1, 300);
+    return PICK(d, edges);
+}
+
+static void put_place(struct writer *w, uint32_t length)
+{
+    struct dice *d = w->dice;
+    if (one_in(d, 2)) {
+        uint32_t at = vdp_target(d, 1);
+        if (at < 0x4000 && at + length > 0x4000 && length < 0x4000 && percent(d, 70))
+            at = 0x4000 - length;
+        put_vdp_operand(w, at);
+    } else {
+        uint32_t at = cpu_target(d, 1);
+        if (at <= 0xDF && at + length > 0xE0 && length < 0xE0 && percent(d, 70))
+            at = 0xE0 - length;
+        put_cpu_operand(w, at);
+    }
+}
+
+static void put_move(struct writer *w)
+{
+    struct dice *d = w->dice;
+    uint32_t op = 0x30 | below(d, 16);
+    uint32_t length = some_length(d);
+
+    if ((op & 6) == 6 && percent(d, 95))
+        op &= ~2u;
+    if ((op & 8) && percent(d, 85))
+        length = between(d, 1, 3);
+    put(w, op);
+    if (op & 1) {
+        put_word(w, length);
+    } else if (percent(d, 90)) {
+        put_cpu_operand(w, LENGTH_WORDS + 2 * below(d, 8));
+        length = 8;
+    } else {
+        put_operand(w, 2);
+    }
+    if (op & 8)
+        put(w, percent(d, 88) ? below(d, length < 8 ? 9 - length : 2) : edge_byte(d));
+    else
+        put_place(w, length);
+    if (op & 4) {
+        put_place(w, length);
+    } else {
+        uint32_t from = some_address(w);
+        uint32_t cell = percent(d, 95) ? INDEX_WORDS + 2 * below(d, 8) : between(d, 0xDC, 0xE1);
+        if ((op & 2) && w->pad)
+            from -= (uint32_t)w->pad[cell] << 8 | w->pad[cell + 1];
+        put_word(w, from);
+        if (op & 2)
+            put(w, cell);
+    }
+}
+
+/* ---- instructions ---- */
+
+/* A third of the immediates lie about the value that the destination holds. */
+static void put_immediate(struct writer *w, int cell, uint32_t width)
+{
+    struct dice *d = w->dice;
+    uint32_t value = width == 1 ? edge_byte(d) : edge_word(d);
+
+    if (w->pad && cell >= 0 && one_in(d, 3)) {
+        value = w->pad[cell];
+        if (width == 2)
+            value = value << 8 | w->pad[cell + 1];
+        value = value + below(d, 3) - 1;
+    }
+    if (width == 1)
+        put(w, value & 0xFF);
+    else
+        put_word(w, value);
+}
+
+static void put_two_operands(struct writer *w)
+{
+    struct dice *d = w->dice;
+    uint32_t op = between(d, 0xA0, 0xEB);
+    uint32_t width = 1 + (op & 1);
+
+    if ((op & 0xFE) == 0xC2 && percent(d, 90))
+        op &= ~2u;
+    put(w, op);
+    int cell = put_operand(w, width);
+    if (op & 2)
+        put_immediate(w, cell, width);
+    else
+        put_operand(w, width);
+}
+
+static void put_one_operand(struct writer *w)
+{
+    uint32_t op = between(w->dice, 0x80, 0x97);
+    put(w, op);
+    put_operand(w, 1 + (op & 1));
+}
+
+static void put_branch(struct writer *w)
+{
+    put_word(w, (one_in(w->dice, 2) ? 0x4000 : 0x6000) | (some_address(w) & 0x1FFF));
+}
+
+/* >00 to >0D without FMT and without those that are never done */
+static void put_plain(struct writer *w)
+{
+    static const uint8_t ops[] = {0x00, 0x01, 0x02, 0x02, 0x04, 0x05, 0x06, 0x06, 0x09, 0x0A, 0x0C, 0x0D};
+    struct dice *d = w->dice;
+    uint32_t op = percent(d, 3) ? 0x07 : PICK(d, ops);
+
+    put(w, op);
+    switch (op) {
+    case 0x02:
+    case 0x04:
+    case 0x07:
+        put(w, edge_byte(d));
+        break;
+    case 0x05:
+    case 0x06:
+        put_word(w, some_address(w));
+        break;
+    }
+}
+
+/* An opcode that ends the program, needs the host or isn't there. */
+static void put_undone(struct writer *w)
+{
+    static const uint8_t ops[] = {
+        0x0B, 0x0B, 0x03, 0x0F, 0xF4, 0xF5, 0xF6, 0xF7, 0x0E, 0x10, 0x13, 0x1F, 0x20, 0x2F, 0x36,
+        0x37, 0x3E, 0x3F, 0x98, 0x9F, 0xC2, 0xC3, 0xEC, 0xEF, 0xF0, 0xF3, 0xF8, 0xFC, 0xFF
+    };
+    put(w, PICK(w->dice, ops));
+}
+
+static void put_instruction(struct writer *w, uint32_t undone_percent)
+{
+    struct dice *d = w->dice;
+    uint32_t r = below(d, 100);
+
+    if (percent(d, undone_percent))
+        put_undone(w);
+    else if (r < 40)
+        put_two_operands(w);
+    else if (r < 60)
+        put_one_operand(w);
+    else if (r < 72)
+        put_plain(w);
+    else if (r < 80)
+        put_branch(w);
+    else if (r < 91)
+        put_move(w);
+    else
+        put_format(w);
+}
+
+/* ---- the parts of a case ---- */
+
+static void fill_noise(struct dice *d, uint8_t *to, size_t len)
+{
+    for (size_t i = 0; i < len; i++)
+        to[i] = (uint8_t)roll(d);
+}
+
+static void set_word(uint8_t *pad, uint32_t at, uint32_t word)
+{
+    pad[at] = (uint8_t)(word >> 8);
+    pad[at + 1] = (uint8_t)word;
+}
+
+static void fill_stack_pointers(struct dice *d, uint8_t *pad)
+{
+    static const uint8_t data_edges[] = {0x9E, 0x9F, 0xA0, 0xBE, 0xBF, 0xC0, 0x00, 0xFF};
+    static const uint8_t call_edges[] = {
+        0x7C, 0x7D, 0x7E, 0x7F, 0x80, 0x81, 0x9C, 0x9D, 0x9E, 0x9F, 0xA0, 0x00, 0xFC, 0xFE, 0xFF
+    };
+    pad[0x72] = (uint8_t)(percent(d, 15) ? PICK(d, data_edges) : between(d, 0xA0, 0xBE));
+    pad[0x73] = (uint8_t)(percent(d, 20) ? PICK(d, call_edges) : 0x7E + 2 * below(d, 15));
+}
+
+static void fill_pad(struct dice *d, uint8_t *pad)
+{
+    for (size_t i = 0; i < CASE_PAD_LEN; i++)
+        pad[i] = (uint8_t)(percent(d, 30) ? edge_byte(d) : below(d, 256));
+    for (uint32_t i = 0; i < 8; i++) {
+        set_word(pad, INDEX_WORDS + 2 * i, percent(d, 75) ? below(d, 16) - 8 : edge_word(d));
+        set_word(pad, ADDRESS_WORDS + 2 * i, vdp_target(d, 2));
+        set_word(pad, LENGTH_WORDS + 2 * i, some_length(d));
+    }
+    for (uint32_t i = 0; i < 16; i++)
+        pad[OFFSET_BYTES + i] = (uint8_t)cpu_target(d, 2);
+    fill_stack_pointers(d, pad);
+    pad[0x7E] = (uint8_t)(percent(d, 75)   ? below(d, 24)
+                          : percent(d, 50) ? between(d, 22, 25)
+                                           : edge_byte(d));
+    pad[0x7F] = (uint8_t)(percent(d, 70)   ? below(d, 32)
+                          : percent(d, 50) ? between(d, 30, 33)
+                                           : edge_byte(d));
+}
+
+/* Return addresses: the case's own labels, mostly. */
+static void fill_return_stack(struct writer *w, uint8_t *pad)
+{
+    for (uint32_t at = 0x80; at < 0xA0; at += 2)
+        set_word(pad, at, some_address(w));
+}
+
+static uint16_t start_address(struct dice *d, size_t image_len)
+{
+    uint32_t groups = (uint32_t)(image_len / CASE_GROUP_LEN);
+    uint32_t r = below(d, 100);
+
+    if (r < 85)
+        return (uint16_t)below(d, (uint32_t)image_len);
+    if (r < 96)
+        return (uint16_t)(CASE_GROUP_LEN * between(d, 1, groups) - between(d, 1, 6));
+    if (r < 98)
+        return 0;
+    return (uint16_t)(image_len + below(d, 3)); /* beyond it, unless it is full */
+}
+
+static size_t some_image_len(struct dice *d)
+{
+    return (size_t)CASE_GROUP_LEN * (percent(d, 85) ? between(d, 1, 4) : between(d, 5, 8));
+}
+
+/* A record of a few stores, as a step would have left it. */
+static size_t fill_record(struct dice *d, uint32_t *journal, size_t at, size_t end)
+{
+    uint32_t stores = below(d, 7);
+    journal[at++] = 3u << 30 | below(d, 65536);
+    for (; stores > 0 && at < end; stores--) {
+        uint32_t kind = below(d, 3);
+        uint32_t cells = kind == 0 ? 0xE0 : kind == 1 ? 0x4000 : 8;
+        journal[at++] = kind << 30 | below(d, cells) << 8 | below(d, 256);
+    }
+    return at;
+}
+
+static size_t some_journal_len(struct dice *d)
+{
+    uint32_t r = below(d, 10000);
+    if (r < 400)
+        return 0;
+    if (r < 3000)
+        return between(d, 1, 100);
+    if (r < 9500)
+        return between(d, 100, 4000);
+    if (r < 9990)
+        return between(d, 4000, 40000);
+    return CASE_JOURNAL_MAX - below(d, 2);
+}
+
+static void fill_journal(struct dice *d, struct test_case *c)
+{
+    uint32_t *journal = c->journal;
+    size_t len = c->journal_len = some_journal_len(d);
+    uint32_t r = below(d, 100);
+    size_t room;
+
+    if (r < 55)
+        room = len;
+    else if (r < 80)
+        room = below(d, 16);
+    else if (r < 85)
+        room = below(d, 900);
+    else if (r < 87)
+        room = between(d, ALL_ROOM_LOW, ALL_ROOM_HIGH);
+    else
+        room = below(d, (uint32_t)len + 1);
+    c->used = room > len ? 0 : len - room;
+
+    size_t at = 0;
+    if (c->used > 4000) { /* most of a long journal is plain */
+        at = c->used - 4000;
+        memset(journal, 0, at * sizeof *journal);
+    }
+    while (at < c->used)
+        at = fill_record(d, journal, at, c->used);
+    if (one_in(d, 2)) {
+        memset(journal + at, 0, (len - at) * sizeof *journal);
+    } else {
+        uint64_t garbage = roll(d) | 1;
+        for (; at < len; at++) {
+            garbage = garbage * 6364136223846793005u + 1442695040888963407u;
+            journal[at] = (uint32_t)(garbage >> 32);
+        }
+    }
+}
+
+/* ---- calls ---- */
+
+static uint32_t some_run(struct dice *d)
+{
+    uint32_t r = below(d, 100);
+    if (r < 5)
+        return 0;
+    if (r < 80)
+        return between(d, 1, 20);
+    if (r < 95)
+        return between(d, 21, 500);
+    return one_in(d, 2) ? UINT32_MAX : (uint32_t)roll(d);
+}
+
+static void some_view(struct dice *d, struct call *call)
+{
+    static const size_t edges[] = {
+        0, 1, 0xDE, 0xDF, 0xE0, 0xE1, 0xFF, 0x100, 0x101, 0x3FFE, 0x3FFF, 0x4000, 0x4001, 0x10000,
+        SIZE_MAX / 2, SIZE_MAX - 1, SIZE_MAX
+    };
+    call->memory = (int)below(d, 2);
+    size_t reach = call->memory == 0 ? 0xE0 : 0x4000;
+    call->at = one_in(d, 2) ? PICK(d, edges) : below(d, (uint32_t)reach);
+    if (call->at < reach && percent(d, 60)) {
+        size_t most = reach - call->at;
+        call->len = one_in(d, 2) ? most - 1 + below(d, 3) : below(d, (uint32_t)most + 1);
+    } else {
+        call->len = PICK(d, edges);
+    }
+}
+
+/* Answer 11, by one part or the used count. */
+static void spoil_length(struct dice *d, struct call *call)
+{
+    static const size_t images[] = {0, 1, 255, 4096, 8191, 8193, 12288, 65535, CASE_IMAGE_ROOM};
+    static const size_t pads[] = {0, 255, 257, 224};
+    static const size_t vdps[] = {0, 16383, 16385, 8192};
+    static const size_t regs[] = {0, 7, 9};
+    switch (below(d, 6)) {
+    case 0:
+        call->image_len = PICK(d, images);
+        break;
+    case 1:
+        call->pad_len = PICK(d, pads);
+        break;
+    case 2:
+        call->vdp_len = PICK(d, vdps);
+        break;
+    case 3:
+        call->reg_len = PICK(d, regs);
+        break;
+    case 4:
+        call->journal_len = CASE_JOURNAL_MAX + 1;
+        break;
+    default:
+        call->used_beyond = one_in(d, 4) ? SIZE_MAX - call->journal_len : 1 + below(d, 3);
+        break;
+    }
+}
+
+/* The journal's top, spoilt in one word: any bit, any cell, any word. */
+static void some_damage(struct dice *d, struct call *call)
+{
+    static const uint32_t cells[] = {
+        0x00DF00u, 0x00E000u, 0x00FF00u, 0x010000u, 0x40000000u, 0x403FFF00u, 0x40400000u,
+        0x80000700u, 0x80000800u, 0x80010000u, 0xC0000000u, 0xC0010000u, 0xE0000000u, 0xC000FFFFu
+    };
+    uint32_t r = below(d, 100);
+
+    call->damage = true;
+    call->damage_below = percent(d, 80) ? below(d, 6) : below(d, 60);
+    call->damage_and = 0xFFFFFFFFu;
+    if (r < 50) {
+        call->damage_xor = 1u << below(d, 32);
+    } else if (r < 80) {
+        call->damage_and = 0;
+        call->damage_xor = PICK(d, cells);
+    } else {
+        call->damage_xor = (uint32_t)roll(d);
+    }
+}
+
+static void fill_call(struct writer *w, const struct test_case *c, struct call *call)
+{
+    struct dice *d = w->dice;
+    uint32_t r = below(d, 100);
+
+    memset(call, 0, sizeof *call);
+    call->kind = r < 45 ? CALL_STEP : r < 70 ? CALL_RUN : r < 91 ? CALL_BACK : CALL_VIEW;
+    call->image_len = c->image_len;
+    call->pad_len = CASE_PAD_LEN;
+    call->vdp_len = CASE_VDP_LEN;
+    call->reg_len = CASE_REG_LEN;
+    call->journal_len = c->journal_len;
+    call->n = some_run(d);
+    if (call->kind == CALL_VIEW)
+        some_view(d, call);
+    if (percent(d, 2))
+        spoil_length(d, call);
+    if (percent(d, 35)) {
+        call->set_pc = true;
+        call->pc = (uint16_t)(w->labels > 0 && percent(d, 90) ? w->label[below(d, (uint32_t)w->labels)]
+                                                              : some_address(w));
+    }
+    if (percent(d, 10)) {
+        static const uint8_t cells[] = {0x72, 0x73, 0x73, 0x7C, 0x7E, 0x7F};
+        call->set_pad = true;
+        call->pad_at = (uint8_t)(one_in(d, 2) ? PICK(d, cells) : below(d, 256));
+        call->pad_byte = (uint8_t)(call->pad_at == 0x72   ? between(d, 0x9E, 0xC0)
+                                   : call->pad_at == 0x73 ? between(d, 0x7D, 0xA0)
+                                                          : below(d, 256));
+    }
+    if (call->kind == CALL_BACK && percent(d, 22))
+        some_damage(d, call);
+    if (percent(d, 4))
+        call->drop_used = one_in(d, 4) ? SIZE_MAX : between(d, 1, 20);
+}
+
+/* ---- cases ---- */
+
+void maker_start(struct maker *m, uint64_t seed)
+{
+    struct dice d = {seed};
+    struct writer w = {.maker = m, .dice = &d, .image_len = CASE_IMAGE_MAX};
+
+    m->seed = seed;
+    m->patches = 0;
+    fill_noise(&d, m->noise, sizeof m->noise);
+    fill_noise(&d, m->image, sizeof m->image);
+    for (uint32_t group = 0; group < CASE_IMAGE_MAX; group += CASE_GROUP_LEN) {
+        w.at = (uint16_t)group;
+        while (w.at % CASE_GROUP_LEN < CASE_GROUP_LEN - 600) {
+            w.labels = 0;
+            for (uint16_t i = 0; i < 4; i++) /* branches stay in their group, mostly */
+                w.label[w.labels++] = (uint16_t)(group + below(&d, CASE_GROUP_LEN));
+            put_instruction(&w, 1);
+        }
+    }
+}
+
+static void take_patches_away(struct maker *m)
+{
+    while (m->patches > 0) {
+        m->patches--;
+        m->image[m->patch[m->patches].at] = m->patch[m->patches].old;
+    }
+}
+
+static void write_code(struct writer *w, struct test_case *c)
+{
+    struct dice *d = w->dice;
+    uint32_t instructions = between(d, 1, 12);
+    bool long_format = one_in(d, 50);
+    size_t room = c->journal_len - c->used;
+
+    if (room >= ALL_ROOM_LOW && room <= ALL_ROOM_HIGH) {
+        add_label(w);
+        put(w, 0x07);
+        put(w, below(d, 256));
+    }
+    for (uint32_t i = 0; i < instructions; i++) {
+        add_label(w);
+        put_instruction(w, 3);
+    }
+    if (long_format) {
+        add_label(w);
+        c->pc = w->at;
+        put_long_format(w);
+    }
+}
+
+void maker_make(struct maker *m, uint64_t number, struct test_case *c)
+{
+    struct dice d = {m->seed ^ (number + 1) * 0xD1342543DE82EF95u};
+    d.state = roll(&d);
+    take_patches_away(m);
+
+    c->image = m->image;
+    c->image_len = some_image_len(&d);
+    c->journal = m->journal;
+    fill_pad(&d, c->pad);
+    memcpy(c->vdp, m->noise, sizeof c->vdp);
+    fill_noise(&d, c->vdp + below(&d, CASE_VDP_LEN - 64), 64);
+    fill_noise(&d, c->reg, sizeof c->reg);
+    fill_journal(&d, c);
+
+    struct writer w = {
+        .maker = m, .dice = &d, .pad = c->pad, .image_len = c->image_len, .keep_patches = true};
+    c->pc = w.at = start_address(&d, c->image_len);
+    write_code(&w, c);
+    fill_return_stack(&w, c->pad);
+
+    c->call_count = (int)between(&d, 1, CASE_CALLS_MAX);
+    for (int i = 0; i < c->call_count; i++)
+        fill_call(&w, c, &c->call[i]);
+}

@@ -1,0 +1,481 @@
+/* Compares two machines call by call:  compare [cases] [seed] [first-case] */
+#include <inttypes.h>
+#include <stdio.h>
+#include <stdlib.h>
+#include <string.h>
+
+#include "cases.h"
+#include "machine.h"
+
+enum { CANARY = 64 };
+#define CANARY_BYTE 0xC5
+
+/* A lent part with canary bytes on both sides. */
+struct part {
+    uint8_t *block;
+    size_t len;
+    size_t room;
+};
+
+/* One side of the comparison. */
+struct side {
+    const struct machine *machine;
+    struct part pad, vdp, reg, journal;
+};
+
+struct outcome {
+    peer_report report;
+    size_t shown;
+    size_t offset;
+};
+
+struct counts {
+    uint64_t cases, calls, calls_of_kind[4];
+    uint64_t answers[256];      /* of every call but views */
+    uint64_t step_answers[256]; /* of single steps */
+    uint64_t tries, accepted;   /* steps, those of runs included */
+    uint64_t opcode[256];       /* accepted */
+    uint64_t empty_views, shown_views;
+};
+
+static const struct machine peer_machine = {"peer", peer_step, peer_run, peer_step_back, peer_view};
+
+static const char *const kind_name[] = {"step", "run", "step-back", "view"};
+
+/* ---- lent parts ---- */
+
+static void part_make(struct part *p, size_t room)
+{
+    p->room = room;
+    p->len = 0;
+    p->block = malloc(room + 2 * CANARY);
+    if (!p->block) {
+        fprintf(stderr, "out of memory\n");
+        exit(2);
+    }
+    memset(p->block, CANARY_BYTE, room + 2 * CANARY);
+}
+
+static uint8_t *part_bytes(const struct part *p)
+{
+    return p->block + CANARY;
+}
+
+static void part_fill(struct part *p, const void *from, size_t len)
+{
+    memcpy(part_bytes(p), from, len);
+    p->len = len;
+    memset(part_bytes(p) + len, CANARY_BYTE, CANARY);
+}
+
+static bool part_guarded(const struct part *p)
+{
+    for (size_t i = 0; i < CANARY; i++)
+        if (p->block[i] != CANARY_BYTE || part_bytes(p)[p->len + i] != CANARY_BYTE)
+            return false;
+    return true;
+}
+
+static uint32_t *journal_words(const struct side *s)
+{
+    return (uint32_t *)(void *)part_bytes(&s->journal);
+}
+
+static void side_make(struct side *s, const struct machine *machine)
+{
+    s->machine = machine;
+    part_make(&s->pad, CASE_PAD_LEN + CASE_LENT_EXTRA);
+    part_make(&s->vdp, CASE_VDP_LEN + CASE_LENT_EXTRA);
+    part_make(&s->reg, CASE_REG_LEN + CASE_LENT_EXTRA);
+    part_make(&s->journal, CASE_JOURNAL_ROOM * sizeof(uint32_t));
+}
+
+static void side_free(struct side *s)
+{
+    free(s->pad.block);
+    free(s->vdp.block);
+    free(s->reg.block);
+    free(s->journal.block);
+}
+
+static void side_start(struct side *s, const struct test_case *c)
+{
+    part_fill(&s->pad, c->pad, CASE_PAD_LEN);
+    part_fill(&s->vdp, c->vdp, CASE_VDP_LEN);
+    part_fill(&s->reg, c->reg, CASE_REG_LEN);
+    part_fill(&s->journal, c->journal, c->journal_len * sizeof(uint32_t));
+}
+
+/* ---- calls ---- */
+
+/* What is changed before a call, the same on both sides. */
+static void edit_side(struct side *s, const struct call *call, size_t used)
+{
+    if (call->set_pad)
+        part_bytes(&s->pad)[call->pad_at] = call->pad_byte;
+    if (call->damage && call->damage_below < used) {
+        uint32_t *word = journal_words(s) + (used - 1 - call->damage_below);
+        *word = (*word & call->damage_and) ^ call->damage_xor;
+    }
+}
+
+static void edit_numbers(const struct call *call, uint16_t *pc, size_t *used)
+{
+    if (call->set_pc)
+        *pc = call->pc;
+    *used -= call->drop_used < *used ? call->drop_used : *used;
+}
+
+static size_t lent_used(const struct call *call, size_t used)
+{
+    return call->used_beyond ? call->journal_len + call->used_beyond : used;
+}
+
+static struct outcome make_call(struct side *s, const struct test_case *c, const struct call *call,
+                                uint16_t pc, size_t used)
+{
+    const struct machine *m = s->machine;
+    uint8_t *pad = part_bytes(&s->pad), *vdp = part_bytes(&s->vdp), *reg = part_bytes(&s->reg);
+    uint32_t *journal = journal_words(s);
+    struct outcome out;
+
+    memset(&out, 0, sizeof out);
+    used = lent_used(call, used);
+    switch (call->kind) {
+    case CALL_STEP:
+        out.report = m->step(c->image, call->image_len, pad, call->pad_len, vdp, call->vdp_len, reg,
+                             call->reg_len, journal, call->journal_len, pc, used);
+        break;
+    case CALL_RUN:
+        out.report = m->run(c->image, call->image_len, pad, call->pad_len, vdp, call->vdp_len, reg,
+                            call->reg_len, journal, call->journal_len, pc, used, call->n);
+        break;
+    case CALL_BACK:
+        out.report = m->step_back(pad, call->pad_len, vdp, call->vdp_len, reg, call->reg_len, journal,
+                                  call->journal_len, pc, used);
+        break;
+    case CALL_VIEW:
+        out.shown = m->view(call->pad_len, call->vdp_len, call->memory, call->at, call->len, &out.offset);
+        if (out.shown == 0)
+            out.offset = 0; /* an empty part has no place */
+        out.report.pc = pc;
+        out.report.used = used;
+        break;
+    }
+    return out;
+}
+
+/* ---- differences ---- */
+
+static bool same_report(const peer_report *a, const peer_report *b)
+{
+    return a->answer == b->answer && a->pc == b->pc && a->used == b->used && a->steps == b->steps &&
+           a->stores == b->stores;
+}
+
+static bool same_part(const struct part *a, const struct part *b)
+{
+    return memcmp(part_bytes(a), part_bytes(b), a->len) == 0;
+}
+
+static bool same_sides(const struct side *a, const struct side *b)
+{
+    return same_part(&a->pad, &b->pad) && same_part(&a->vdp, &b->vdp) && same_part(&a->reg, &b->reg) &&
+           same_part(&a->journal, &b->journal);
+}
+
+static bool guarded(const struct side *s)
+{
+    return part_guarded(&s->pad) && part_guarded(&s->vdp) && part_guarded(&s->reg) && part_guarded(&s->journal);
+}
+
+static void print_outcome(const struct machine *m, const struct outcome *o)
+{
+    printf("# %s: answer %u pc %04X used %zu steps %" PRIu32 " stores %" PRIu64 " shown %zu offset %zu\n",
+           m->name, o->report.answer, o->report.pc, o->report.used, o->report.steps, o->report.stores,
+           o->shown, o->offset);
+}
+
+static void print_part_difference(const char *name, const struct part *a, const struct part *b)
+{
+    int shown = 0;
+    for (size_t i = 0; i < a->len && shown < 32; i++)
+        if (part_bytes(a)[i] != part_bytes(b)[i]) {
+            printf("# %s %04zX: %02X, %02X\n", name, i, part_bytes(a)[i], part_bytes(b)[i]);
+            shown++;
+        }
+}
+
+static void print_journal_difference(const struct side *a, const struct side *b)
+{
+    int shown = 0;
+    for (size_t i = 0; i < a->journal.len / sizeof(uint32_t) && shown < 32; i++)
+        if (journal_words(a)[i] != journal_words(b)[i]) {
+            printf("# journal %zu: %08" PRIX32 ", %08" PRIX32 "\n", i, journal_words(a)[i], journal_words(b)[i]);
+            shown++;
+        }
+}
+
+static void print_guards(const struct side *s)
+{
+    if (!guarded(s))
+        printf("# %s wrote beside a lent part:%s%s%s%s\n", s->machine->name, part_guarded(&s->pad) ? "" : " pad",
+               part_guarded(&s->vdp) ? "" : " vdp", part_guarded(&s->reg) ? "" : " reg",
+               part_guarded(&s->journal) ? "" : " journal");
+}
+
+/* ---- the state before a call, as lines ---- */
+
+static void print_bytes(const char *name, int digits, const uint8_t *bytes, size_t len, size_t program_len)
+{
+    for (size_t row = 0; row < len; row += 32) {
+        size_t end = row + 32 < len ? row + 32 : len;
+        bool blank = true;
+        for (size_t i = row; i < end; i++)
+            blank = blank && bytes[i] == 0;
+        if (blank)
+            continue;
+        printf("%s%s\t%0*zX\t", row < program_len ? "" : "# ", name, digits, row);
+        for (size_t i = row; i < end; i++)
+            printf("%02X", bytes[i]);
+        putchar('\n');
+    }
+}
+
+/* A long journal is shown about its used count only. */
+static void print_journal(const struct side *s, size_t used)
+{
+    size_t len = s->journal.len / sizeof(uint32_t);
+    size_t from = len > 8192 && used > 256 ? used - 256 : 0;
+    size_t to = len > 8192 && used + 256 < len ? used + 256 : len;
+
+    printf("# journal length %zu\n# used %zu\n", len, used);
+    for (size_t row = from; row < to; row += 8) {
+        printf("# journal %zu", row);
+        for (size_t i = row; i < row + 8 && i < to; i++)
+            printf(" %08" PRIX32, journal_words(s)[i]);
+        putchar('\n');
+    }
+}
+
+static void print_call(const struct call *call)
+{
+    printf("# call %s n %" PRIu32 " memory %d at %zu len %zu\n", kind_name[call->kind], call->n, call->memory,
+           call->at, call->len);
+    printf("# lent image %zu pad %zu vdp %zu reg %zu journal %zu\n", call->image_len, call->pad_len,
+           call->vdp_len, call->reg_len, call->journal_len);
+    if (call->used_beyond)
+        printf("# used lent as the journal's length plus %zu\n", call->used_beyond);
+}
+
+/* Makes the calls before the failing one again, with one machine alone. */
+static void replay(struct side *s, const struct test_case *c, int failing, uint16_t *pc, size_t *used)
+{
+    *pc = c->pc;
+    *used = c->used;
+    side_start(s, c);
+    for (int i = 0; i <= failing; i++) {
+        const struct call *call = &c->call[i];
+        edit_numbers(call, pc, used);
+        edit_side(s, call, *used);
+        if (i == failing)
+            break;
+        struct outcome out = make_call(s, c, call, *pc, *used);
+        *pc = out.report.pc;
+        if (!call->used_beyond)
+            *used = out.report.used;
+    }
+}
+
+static struct outcome replay_run(struct side *s, const struct test_case *c, int failing, uint32_t n)
+{
+    struct call call = c->call[failing];
+    uint16_t pc;
+    size_t used;
+
+    replay(s, c, failing, &pc, &used);
+    call.n = n;
+    return make_call(s, c, &call, pc, used);
+}
+
+/* The step of a run after which the sides first differ. */
+static void print_first_step(struct side *a, struct side *b, const struct test_case *c, int failing)
+{
+    for (uint32_t n = 1; n <= c->call[failing].n && n <= 5000; n++) {
+        struct outcome x = replay_run(a, c, failing, n);
+        struct outcome y = replay_run(b, c, failing, n);
+        if (same_report(&x.report, &y.report) && same_sides(a, b))
+            continue;
+        x = replay_run(a, c, failing, n - 1);
+        printf("# a run of %" PRIu32 " differs first: pc %04X, code", n, x.report.pc);
+        for (unsigned i = 0; i < 16; i++)
+            printf(" %02X", c->image[(x.report.pc & 0xE000) | ((x.report.pc + i) & 0x1FFF)]);
+        printf("\n# pad then");
+        for (unsigned i = 0; i < CASE_PAD_LEN; i++)
+            printf("%s%02X", i % 32 == 0 ? "\n# " : " ", part_bytes(&a->pad)[i]);
+        putchar('\n');
+        return;
+    }
+}
+
+static void print_state_before(struct side *a, const struct test_case *c, int failing)
+{
+    uint16_t pc;
+    size_t used;
+
+    replay(a, c, failing, &pc, &used);
+    print_call(&c->call[failing]);
+    printf("# image length %zu, the program's is 32768\n", c->image_len);
+    print_journal(a, used);
+    print_bytes("grom", 4, c->image, c->image_len, 32768);
+    print_bytes("pad", 2, part_bytes(&a->pad), a->pad.len, a->pad.len);
+    print_bytes("vdp", 4, part_bytes(&a->vdp), a->vdp.len, a->vdp.len);
+    print_bytes("reg", 2, part_bytes(&a->reg), a->reg.len, a->reg.len);
+    printf("pc\t%04X\n", pc);
+    printf("run\t%" PRIu32 "\n", c->call[failing].kind == CALL_RUN ? c->call[failing].n : 1);
+}
+
+static void print_difference(const struct maker *m, uint64_t number, struct side *a, struct side *b,
+                             const struct test_case *c, int failing, const struct outcome *x,
+                             const struct outcome *y)
+{
+    printf("# DIFFERENCE: seed %" PRIu64 " case %" PRIu64 " call %d (%s)\n", m->seed, number, failing,
+           kind_name[c->call[failing].kind]);
+    print_outcome(a->machine, x);
+    print_outcome(b->machine, y);
+    print_part_difference("pad", &a->pad, &b->pad);
+    print_part_difference("vdp", &a->vdp, &b->vdp);
+    print_part_difference("reg", &a->reg, &b->reg);
+    print_journal_difference(a, b);
+    print_guards(a);
+    print_guards(b);
+    if (c->call[failing].kind == CALL_RUN)
+        print_first_step(a, b, c, failing);
+    print_state_before(a, c, failing);
+}
+
+/* ---- counting ---- */
+
+static bool is_refusal_of_step(uint8_t answer)
+{
+    return answer != 0 && answer != 11;
+}
+
+/* The marks of a step or run name the opcodes that were done. */
+static void count_opcodes(struct counts *n, const struct side *s, const struct test_case *c, size_t from, size_t to)
+{
+    for (size_t i = from; i < to; i++) {
+        uint32_t word = journal_words(s)[i];
+        if (word >> 30 == 3)
+            n->opcode[c->image[word & 0xFFFF]]++;
+    }
+}
+
+static void count_call(struct counts *n, const struct side *s, const struct test_case *c,
+                       const struct call *call, const struct outcome *o, size_t used)
+{
+    n->calls++;
+    n->calls_of_kind[call->kind]++;
+    if (call->kind == CALL_VIEW) {
+        *(o->shown == 0 ? &n->empty_views : &n->shown_views) += 1;
+        return;
+    }
+    n->answers[o->report.answer]++;
+    if (call->kind == CALL_BACK)
+        return;
+    if (call->kind == CALL_STEP)
+        n->step_answers[o->report.answer]++;
+    n->accepted += o->report.steps;
+    n->tries += o->report.steps + (is_refusal_of_step(o->report.answer) ? 1 : 0);
+    if (o->report.answer != 11)
+        count_opcodes(n, s, c, used, o->report.used);
+}
+
+static bool opcode_is_done(int op)
+{
+    if (op <= 0x0D)
+        return op != 0x03 && op != 0x0B;
+    if (op >= 0x30 && op <= 0x3F)
+        return (op & 6) != 6;
+    return (op >= 0x40 && op <= 0x97) || (op >= 0xA0 && op <= 0xEB && (op & 0xFE) != 0xC2);
+}
+
+static void print_counts(const struct counts *n)
+{
+    int never = 0, wrong = 0;
+    printf("cases %" PRIu64 ", calls %" PRIu64 " (step %" PRIu64 ", run %" PRIu64 ", step-back %" PRIu64
+           ", view %" PRIu64 ": %" PRIu64 " shown, %" PRIu64 " empty)\n",
+           n->cases, n->calls, n->calls_of_kind[CALL_STEP], n->calls_of_kind[CALL_RUN], n->calls_of_kind[CALL_BACK],
+           n->calls_of_kind[CALL_VIEW], n->shown_views, n->empty_views);
+    printf("steps tried %" PRIu64 ", accepted %" PRIu64 " (%.1f%%); single steps accepted %.1f%%\n", n->tries,
+           n->accepted, n->tries ? 100.0 * (double)n->accepted / (double)n->tries : 0,
+           n->calls_of_kind[CALL_STEP] ? 100.0 * (double)n->step_answers[0] / (double)n->calls_of_kind[CALL_STEP] : 0);
+    printf("answers:");
+    for (int i = 0; i < 256; i++)
+        if (i <= 13 || n->answers[i])
+            printf(" %d:%" PRIu64, i, n->answers[i]);
+    printf("\naccepted steps by opcode:");
+    for (int i = 0; i < 256; i++) {
+        if (opcode_is_done(i))
+            printf(" %02X:%" PRIu64, i, n->opcode[i]);
+        never += opcode_is_done(i) && n->opcode[i] == 0;
+        wrong += !opcode_is_done(i) && n->opcode[i] != 0;
+    }
+    printf("\nopcodes never accepted: %d\nopcodes accepted that must not be: %d\n", never, wrong);
+}
+
+/* ---- the comparison ---- */
+
+static bool compare_case(const struct maker *m, uint64_t number, struct side *a, struct side *b,
+                         const struct test_case *c, struct counts *n)
+{
+    uint16_t pc = c->pc;
+    size_t used = c->used;
+
+    side_start(a, c);
+    side_start(b, c);
+    for (int i = 0; i < c->call_count; i++) {
+        const struct call *call = &c->call[i];
+        edit_numbers(call, &pc, &used);
+        edit_side(a, call, used);
+        edit_side(b, call, used);
+        struct outcome x = make_call(a, c, call, pc, used);
+        struct outcome y = make_call(b, c, call, pc, used);
+        if (!same_report(&x.report, &y.report) || x.shown != y.shown || x.offset != y.offset ||
+            !same_sides(a, b) || !guarded(a) || !guarded(b)) {
+            print_difference(m, number, a, b, c, i, &x, &y);
+            return false;
+        }
+        count_call(n, a, c, call, &x, used);
+        pc = x.report.pc;
+        if (!call->used_beyond)
+            used = x.report.used;
+    }
+    n->cases++;
+    return true;
+}
+
+int main(int argc, char **argv)
+{
+    static struct maker maker;
+    static struct test_case c;
+    static struct counts counts;
+    struct side a, b;
+    uint64_t cases = argc > 1 ? strtoull(argv[1], NULL, 0) : 100000;
+    uint64_t seed = argc > 2 ? strtoull(argv[2], NULL, 0) : 1;
+    uint64_t first = argc > 3 ? strtoull(argv[3], NULL, 0) : 0;
+
+    side_make(&a, &peer_machine);
+    side_make(&b, &other_machine);
+    maker_start(&maker, seed);
+    bool same = true;
+    for (uint64_t i = first; same && i - first < cases; i++) {
+        maker_make(&maker, i, &c);
+        same = compare_case(&maker, i, &a, &b, &c, &counts);
+    }
+    if (same)
+        print_counts(&counts);
+    side_free(&a);
+    side_free(&b);
+    return same ? 0 : 1;
+}

@@ -1,0 +1,63 @@
+/* The adapter from the proved archive to the calls of the comparison. */
+#include "argolythe.h"
+#include "machine.h"
+
+/* The numbers as the comparison's report; `out` is pc, used, steps, stores. */
+static peer_report report_of(uint8_t answer, const uint64_t out[4])
+{
+    return (peer_report){answer, (uint16_t)out[0], (size_t)out[1], (uint32_t)out[2], out[3]};
+}
+
+/* Numbers that no call may leave standing, so that one that says nothing is seen. */
+static void spoil(uint64_t out[4])
+{
+    for (int i = 0; i < 4; i++)
+        out[i] = 0xA5A5A5A5A5A5A5A5u;
+}
+
+/* One step, as the harness asks for it. */
+static peer_report step(const uint8_t *image, size_t image_len, uint8_t *pad, size_t pad_len,
+                        uint8_t *vdp, size_t vdp_len, uint8_t *reg, size_t reg_len,
+                        uint32_t *journal, size_t journal_len, uint16_t pc, size_t used)
+{
+    uint64_t out[4];
+    spoil(out);
+    uint8_t answer = argolythe_step(image, image_len, pad, pad_len, vdp, vdp_len, reg, reg_len,
+                                    journal, journal_len, pc, used, out);
+    return report_of(answer, out);
+}
+
+/* A run, as the harness asks for it. */
+static peer_report run(const uint8_t *image, size_t image_len, uint8_t *pad, size_t pad_len,
+                       uint8_t *vdp, size_t vdp_len, uint8_t *reg, size_t reg_len,
+                       uint32_t *journal, size_t journal_len, uint16_t pc, size_t used, uint32_t n)
+{
+    uint64_t out[4];
+    spoil(out);
+    uint8_t answer = argolythe_run(image, image_len, pad, pad_len, vdp, vdp_len, reg, reg_len,
+                                   journal, journal_len, pc, used, n, out);
+    return report_of(answer, out);
+}
+
+/* The archive counts a step taken back as one step, the peer as none: any other count stays a difference. */
+static peer_report step_back(uint8_t *pad, size_t pad_len, uint8_t *vdp, size_t vdp_len,
+                             uint8_t *reg, size_t reg_len, uint32_t *journal, size_t journal_len,
+                             uint16_t pc, size_t used)
+{
+    uint64_t out[4];
+    spoil(out);
+    uint8_t answer = argolythe_step_back(pad, pad_len, vdp, vdp_len, reg, reg_len,
+                                         journal, journal_len, pc, used, out);
+    out[2] -= answer == 0 ? 1 : 0;
+    return report_of(answer, out);
+}
+
+/* The harness asks for a view by lengths alone, so it is lent bytes of the adapter's own, as many as the longest lent part has. */
+static size_t view(size_t pad_len, size_t vdp_len, int memory, size_t at, size_t len, size_t *offset)
+{
+    static const uint8_t pad[256 + 8], vdp[16384 + 8];
+    *offset = (size_t)-1;
+    return argolythe_view(pad, pad_len, vdp, vdp_len, (uint8_t)memory, at, len, offset);
+}
+
+const struct machine other_machine = {"argolythe", step, run, step_back, view};

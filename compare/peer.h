@@ -1,0 +1,46 @@
+/* A bench machine for the graphics programming language of document 01. */
+#ifndef PEER_H
+#define PEER_H
+
+#include <stddef.h>
+#include <stdint.h>
+
+/* What a call says: 01's answer number, pc, the journal's used count,
+   the steps done and the byte stores those steps made. */
+typedef struct {
+    uint8_t answer;
+    uint16_t pc;
+    size_t used;
+    uint32_t steps;
+    uint64_t stores;
+} peer_report;
+
+/* One instruction at pc. */
+peer_report peer_step(const uint8_t *image, size_t image_len,
+                      uint8_t *pad, size_t pad_len,
+                      uint8_t *vdp, size_t vdp_len,
+                      uint8_t *reg, size_t reg_len,
+                      uint32_t *journal, size_t journal_len,
+                      uint16_t pc, size_t used);
+
+/* Up to n instructions; stops at the first answer other than 0. */
+peer_report peer_run(const uint8_t *image, size_t image_len,
+                     uint8_t *pad, size_t pad_len,
+                     uint8_t *vdp, size_t vdp_len,
+                     uint8_t *reg, size_t reg_len,
+                     uint32_t *journal, size_t journal_len,
+                     uint16_t pc, size_t used, uint32_t n);
+
+/* Takes the newest record out of the journal and restores what it names. */
+peer_report peer_step_back(uint8_t *pad, size_t pad_len,
+                           uint8_t *vdp, size_t vdp_len,
+                           uint8_t *reg, size_t reg_len,
+                           uint32_t *journal, size_t journal_len,
+                           uint16_t pc, size_t used);
+
+/* memory: 0 CPU, 1 VDP.  Returns the number of bytes shown (0: empty) and
+   their offset in that memory in *offset (0 if empty). */
+size_t peer_view(size_t pad_len, size_t vdp_len, int memory,
+                 size_t at, size_t len, size_t *offset);
+
+#endif
