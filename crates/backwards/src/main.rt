@@ -1,6 +1,7 @@
 // A walk backwards: a cartridge runs into an instruction that fails, and is then stepped back to its start, with pc and a viewed cell at each step.
 use bench::viewer::Memory;
 use lines::parts::Part;
+use lines::print;
 ghost use mathlib.Core.Path.{_≡_};
 ghost use lib.ListN.{length};
 
@@ -24,12 +25,21 @@ const CODE: [u8; 16] = [
     0x00,
 ];
 
+fn show_answer(answer: u8, steps: u32, stores: u64) {
+    let mut out = [0u8; 70];
+    let count = print::put_answer(&mut out, 0, answer, steps, stores);
+    desk::show::write_text(&out, count);
+}
+
 // pc, and pad >00 as the viewer shows it.
 fn show_place<'a>(pad: &'a [u8], vram: &'a [u8], pc: u16) {
-    desk::show::show_pc(pc);
+    let mut out = [0u8; 13];
+    let count = print::put_pc(&mut out, 0, pc);
+    desk::show::write_text(&out, count);
     let cell = bench::viewer::view(pad, vram, Memory::Cpu, 0, 1);
     if cell.len() == 1 {
-        desk::show::show_cell(Part::Pad, 0, cell[0]);
+        let more = print::put_cell(&mut out, 0, Part::Pad, 0, cell[0]);
+        desk::show::write_text(&out, more);
     }
 }
 
@@ -54,7 +64,7 @@ fn walk_back(
         left -= 1;
     }
     let last = bench::walk::step_back(pad, vram, regs, journal, pc, used);
-    desk::show::show_answer(last.answer, 0, last.stores);
+    show_answer(last.answer, 0, last.stores);
 }
 
 fn main() {
@@ -75,7 +85,7 @@ fn main() {
         0,
         100,
     );
-    desk::show::show_answer(r.answer, r.steps, r.stores);
+    show_answer(r.answer, r.steps, r.stores);
     show_place(&pad, &vram, r.pc);
     walk_back(
         &mut pad,

@@ -1,29 +1,33 @@
--- Lengths stay where bytes are laid over a list; and a line obeyed by what it says.
-use mathlib.Core.Path.{_≡_, refl, _∙_, ap}
+-- A copy is what was copied; and a line obeyed, by what it says.
+use mathlib.Core.Path.{_≡_, sym, _∙_, ap, subst}
 use mathlib.Core.Bool.{Bool}
-use mathlib.Core.List.{List, [], _∷_}
-use Prim.Native.Nat.{ℕ, suc, _≤_}
-use native.Mathlib.Omega.{arith}
-use lib.ListN.{length, set, length-set}
+use mathlib.Core.List.{List, _++_}
+use Prim.Native.Nat.{ℕ}
+use lib.ListN.{length, take, drop}
+use lib.Seq.{take-length, take-append-seam}
 use Rattle.lines.specs.Digits.{laid}
 use Rattle.lines.specs.Lines.{grom, pad, vdp, reg, Line}
-use Rattle.lines.specs.Shown.{Prints}
-use Rattle.desk.specs.Desk.{desk, placed, obeyed, says, Obeyed}
+use Rattle.desk.specs.Desk.{desk, placed, obeyed, runText, printed, says, Obeyed}
 use Rattle.rules.specs.Machine.{State}
+use Rattle.rules.specs.Calls.{Report}
 use Rattle.bench.specs.Told.{lent}
 
-pub length-laid : (xs : List ℕ) (at : ℕ) (bs : List ℕ) → length (laid xs at bs) ≡ length xs
-unfolding laid
-length-laid xs at [] = refl
-length-laid xs at (b ∷ bs) = length-laid (set xs at b) (suc at) bs ∙ length-set xs at b
+-- a copy over a list of the same length is the list that was copied
+pub copied : (src was : List ℕ) {dst : List ℕ} → dst ≡ take (length src) src ++ drop (length src) was → length dst ≡ length src → dst ≡ src
+copied src was {dst} e l =
+    let whole : dst ≡ src ++ drop (length src) was = e ∙ ap (λ (xs : List ℕ). xs ++ drop (length src) was) (take-length src) in
+    sym (take-length dst) ∙ ap (λ (n : ℕ). take n dst) l ∙ ap (take (length src)) whole ∙ take-append-seam src (drop (length src) was)
 
--- a line printed leaves the buffer's length
-pub printed : {was is line : List ℕ} {count : ℕ} → Prints was is count line → length is ≡ length was
-printed {was} {line = line} h = ap length (h .over) ∙ length-laid was 0 line
+-- what a run prints, of parts that are as they were
+pub run-told : {p p₀ v v₀ g g₀ text : List ℕ} {r q : Report} → r ≡ q → p₀ ≡ p → v₀ ≡ v → g₀ ≡ g → text ≡ runText p₀ v₀ g₀ r → text ≡ runText p v g q
+run-told e ep ev eg t = rw (← e, ← ep, ← ev, ← eg) t
 
 -- a line that says l
-pub by-line : (i i₁ : List ℕ) (s s₁ : State) (good : Bool) {l k : Line} → l ≡ k → desk i₁ s₁ ≡ obeyed l i s → good ≡ says l → Obeyed k i s i₁ s₁ good
-by-line i i₁ s s₁ good e d g = record { left = d ∙ ap (λ (x : Line). obeyed x i s) e; taken = g ∙ ap says e }
+pub by-line : {k : ℕ} {i i₁ text : List ℕ} {s s₁ : State} {good : Bool} {l m : Line} → l ≡ m → Obeyed k l i s i₁ s₁ text good → Obeyed k m i s i₁ s₁ text good
+by-line {k} {i} {i₁} {text} {s} {s₁} {good} e o = subst (λ (x : Line). Obeyed k x i s i₁ s₁ text good) e o
+
+pub done : {k : ℕ} {l : Line} {i i₁ text : List ℕ} {s s₁ : State} {good : Bool} → desk i₁ s₁ ≡ obeyed l i s → text ≡ printed k l i s → good ≡ says l → Obeyed k l i s i₁ s₁ text good
+done d t g = record { left = d; prints = t; taken = g }
 
 module _ (i p v g : List ℕ) (j : List ℕ) (pc u at : ℕ) (bs : List ℕ) {x : List ℕ} where
   pub laid-grom : x ≡ laid i at bs → desk x (lent p v g j pc u) ≡ placed grom at bs i (lent p v g j pc u)
@@ -37,7 +41,3 @@ module _ (i p v g : List ℕ) (j : List ℕ) (pc u at : ℕ) (bs : List ℕ) {x 
 
   pub laid-reg : x ≡ laid g at bs → desk i (lent p v x j pc u) ≡ placed reg at bs i (lent p v g j pc u)
   laid-reg e = ap (λ (y : List ℕ). desk i (lent p v y j pc u)) e
-
--- two parts of one size, which 16 bits can count
-pub alike : {a b : ℕ} (n : ℕ) → a ≡ n → b ≡ n → n ≤ 16384 → (a ≤ 16384) × (b ≤ a)
-alike n e f l = (omega arith, omega arith)

@@ -1,11 +1,12 @@
--- What a line does to the machine on the desk: "The program reads standard input, tabbed lines".
+-- What a line does to the machine on the desk, and what it prints: "The program reads standard input, tabbed lines".
 use mathlib.Core.Path.{_≡_}
 use mathlib.Core.Bool.{Bool, true, false}
-use mathlib.Core.List.{List}
+use mathlib.Core.List.{List, []}
 use Prim.Native.Nat.{ℕ}
 use Rattle.rules.specs.Machine.{mem, State, state}
-use Rattle.rules.specs.Calls.{run}
+use Rattle.rules.specs.Calls.{Report, run}
 use Rattle.lines.specs.Digits.{laid}
+use Rattle.lines.specs.Shown.{badLine, runLines}
 use Rattle.lines.specs.Lines.{Part, grom, pad, vdp, reg, Line, sets, jumps, runs, bad}
 
 -- the image, and the machine that runs it
@@ -29,6 +30,17 @@ obeyed (jumps n) i s = desk i (state n (s .mem))
 obeyed (runs n) i s = desk i (run n i s .end)
 obeyed bad i s = desk i s
 
+-- "It prints answer, steps, stores; pc; each cell changed": of pad, VDP RAM and registers as they were before the run
+abbrev pub runText : List ℕ → List ℕ → List ℕ → Report → List ℕ
+runText p v g r = runLines (r .answer) (r .steps) (r .stores) (r .end .pc) p (r .end .mem .pad) v (r .end .mem .vram) g (r .end .mem .regs)
+
+-- what a line prints, by its number: "A line not so, or past its part: `bad`, its number from 1"
+abbrev pub printed : ℕ → Line → List ℕ → State → List ℕ
+printed k (sets p at bs) i s = []
+printed k (jumps n) i s = []
+printed k (runs n) i s = runText (s .mem .pad) (s .mem .vram) (s .mem .regs) (run n i s)
+printed k bad i s = badLine k
+
 -- whether it says anything
 abbrev pub says : Line → Bool
 says (sets p at bs) = true
@@ -36,7 +48,8 @@ says (jumps n) = true
 says (runs n) = true
 says bad = false
 
--- a line obeyed: what it leaves of an image and a machine, and whether it was taken
-pub record Obeyed (l : Line) (i : List ℕ) (s : State) (i₁ : List ℕ) (s₁ : State) (good : Bool) : Type 0 where
+-- a line obeyed: what it leaves of an image and a machine, what it prints, and whether it was taken
+pub record Obeyed (k : ℕ) (l : Line) (i : List ℕ) (s : State) (i₁ : List ℕ) (s₁ : State) (text : List ℕ) (good : Bool) : Type 0 where
   pub left : desk i₁ s₁ ≡ obeyed l i s
+  pub prints : text ≡ printed k l i s
   pub taken : good ≡ says l

@@ -1,5 +1,5 @@
 // Lines of an input, chunk by chunk.
-ghost use mathlib.Core.Path.{_≡_};
+use lines::print;
 ghost use Prim.Native.Nat.{_≤_};
 ghost use lib.ListN.{length};
 
@@ -9,13 +9,12 @@ struct Span {
     have: usize,
 }
 
-// A line's length, with what is left of the chunk. `none`: the input has ended; `long`: longer than any valid line.
+// A line's length, with what is left of the chunk; `none` where the input has ended.
 pub struct Input {
     pub at: usize,
     pub have: usize,
     pub len: usize,
     pub none: bool,
-    pub long: bool,
 }
 
 // What is left of the chunk, or the next chunk; nothing where the input has ended.
@@ -33,41 +32,16 @@ fn refill(fd: i32, chunk: &mut [u8], at: usize, have: usize) -> Span
     }
 }
 
-// A line of 65,546 bytes ends here, or it is longer than any valid one.
-fn end_full(fd: i32, chunk: &mut [u8], at: usize, have: usize) -> Input
-    requires { ⌜ (at ≤ have) × (have ≤ length (now chunk)) ⌝ }
-    ensures { λ r. ⌜ (r .at ≤ r .have) × (r .have ≤ length (now (chunk .exit))) × (r .len ≤ 65546) ⌝ }
-{
-    let s = refill(fd, chunk, at, have);
-    if s.at == s.have {
-        return Input {
-            at: s.at,
-            have: s.have,
-            len: 65546,
-            none: false,
-            long: false,
-        };
-    }
-    let place = s.at;
-    let long = chunk[place] != 10;
-    Input {
-        at: place + 1,
-        have: s.have,
-        len: 65546,
-        none: false,
-        long,
-    }
-}
-
-// The next line, without its line feed; the last one may lack it. The longest valid line, a `grom` line for the whole image, has 65,546 bytes.
+// The next line, without its line feed; the last one may lack it. Each turn takes what the chunk has of it. One that is longer than its buffer says nothing, so
+// it counts as an empty one.
 pub fn next_line(fd: i32, chunk: &mut [u8], from: usize, until: usize, line: &mut [u8]) -> Input
-    requires { ⌜ (from ≤ until) × (until ≤ length (now chunk)) × (length (now line) ≡ 65546) ⌝ }
-    ensures { λ r. ⌜ (r .at ≤ r .have) × (r .have ≤ length (now (chunk .exit))) × (r .len ≤ 65546) ⌝ }
+    requires { ⌜ (from ≤ until) × (until ≤ length (now chunk)) ⌝ }
+    ensures { λ r. ⌜ (r .at ≤ r .have) × (r .have ≤ length (now (chunk .exit))) × (r .len ≤ length (now (line .exit))) ⌝ }
 {
     let mut at = from;
     let mut have = until;
     let mut len: usize = 0;
-    while len < 65546 {
+    loop {
         let s = refill(fd, chunk, at, have);
         at = s.at;
         have = s.have;
@@ -77,22 +51,26 @@ pub fn next_line(fd: i32, chunk: &mut [u8], from: usize, until: usize, line: &mu
                 have,
                 len,
                 none: len == 0,
-                long: false,
             };
         }
-        let byte = chunk[at];
-        at = at + 1;
-        if byte == 10 {
+        let end = bytes::scan::find(chunk, at, have, 10);
+        if line.len() - len < end - at {
             return Input {
-                at,
+                at: end,
+                have,
+                len: 0,
+                none: false,
+            };
+        }
+        len = print::put_word(line, len, &chunk[at..end]);
+        if end < have {
+            return Input {
+                at: end + 1,
                 have,
                 len,
                 none: false,
-                long: false,
             };
         }
-        line[len] = byte;
-        len = len + 1;
+        at = end;
     }
-    end_full(fd, chunk, at, have)
 }

@@ -1,49 +1,36 @@
-// What the program prints.
+// What a run prints, put together and written.
+use bench::runs::Report;
 use lines::parts::Part;
 use lines::print;
+ghost use mathlib.Core.Path.{_≡_};
 ghost use Prim.Native.Nat.{_≤_};
 ghost use lib.ListN.{length};
+ghost use Rattle.lines.specs.Shown.{Puts, runLines};
 
-fn write_line(text: &[u8], count: usize)
+// Its answer, its pc, and each cell that it changed; `pad0`, `vram0` and `regs0` are the parts before it. 216,502 bytes are enough: 78 for two lines, 13 for each cell.
+pub fn put_run(
+    out: &mut [u8],
+    r: Report,
+    pad0: &[u8],
+    pad: &[u8],
+    vram0: &[u8],
+    vram: &[u8],
+    regs0: &[u8],
+    regs: &[u8],
+) -> usize
+    requires { ⌜ (length (now out) ≡ 216502) × (length (now pad0) ≡ 256) × (length (now pad) ≡ 256) × (length (now vram0) ≡ 16384) × (length (now vram) ≡ 16384) × (length (now regs0) ≡ 8) × (length (now regs) ≡ 8) ⌝ }
+    ensures { λ k. ⌜ Puts 216502 (now (out .entry)) 0 (runLines (r .answer) (r .steps) (r .stores) (r .pc) (now (pad0 .entry)) (now (pad .entry)) (now (vram0 .entry)) (now (vram .entry)) (now (regs0 .entry)) (now (regs .entry))) (now (out .exit)) k ⌝ }
+{
+    let a = print::put_answer(out, 0, r.answer, r.steps, r.stores);
+    let b = print::put_pc(out, a, r.pc);
+    let c = print::put_changed(out, b, Part::Pad, pad0, pad);
+    let d = print::put_changed(out, c, Part::Vdp, vram0, vram);
+    print::put_changed(out, d, Part::Reg, regs0, regs)
+}
+
+// The first `count` bytes of a text, written to standard output.
+pub fn write_text(text: &[u8], count: usize)
     requires { ⌜ count ≤ length (now text) ⌝ }
 {
     io::write_all(1, &text[..count]);
-}
-
-pub fn show_bad(number: u64) {
-    let mut text = [0u8; 80];
-    let count = print::put_bad(&mut text, number);
-    write_line(&text, count);
-}
-
-pub fn show_answer(answer: u8, steps: u32, stores: u64) {
-    let mut text = [0u8; 80];
-    let count = print::put_answer(&mut text, answer, steps, stores);
-    write_line(&text, count);
-}
-
-pub fn show_pc(pc: u16) {
-    let mut text = [0u8; 80];
-    let count = print::put_pc(&mut text, pc);
-    write_line(&text, count);
-}
-
-pub fn show_cell(part: Part, at: u16, byte: u8) {
-    let mut text = [0u8; 80];
-    let count = print::put_cell(&mut text, part, at, byte);
-    write_line(&text, count);
-}
-
-// Each cell of a part that is not as it was, ascending.
-pub fn show_changed(part: Part, was: &[u8], is: &[u8])
-    requires { ⌜ (length (now was) ≤ 16384) × (length (now is) ≤ length (now was)) ⌝ }
-{
-    let mut at: u16 = 0;
-    while (at as usize) < is.len() {
-        let cell = at as usize;
-        if was[cell] != is[cell] {
-            show_cell(part, at, is[cell]);
-        }
-        at = at + 1;
-    }
 }

@@ -1,11 +1,32 @@
 // An input obeyed, line by line.
 use crate::input;
 use crate::obey;
+use crate::obey::Stand;
 use crate::show;
 ghost use mathlib.Core.Path.{_≡_};
 ghost use lib.ListN.{length};
 
-// Each line obeyed as it comes, up to the first that says nothing: its number is printed.
+// A line obeyed, and what it prints written.
+fn obey_aloud(
+    text: &[u8],
+    number: u64,
+    image: &mut [u8],
+    pad: &mut [u8],
+    vram: &mut [u8],
+    regs: &mut [u8],
+    journal: &mut [u32],
+    pc: u16,
+    used: usize,
+    out: &mut [u8],
+) -> Stand
+    requires { ⌜ (length (now image) ≡ 32768) × (length (now pad) ≡ 256) × (length (now vram) ≡ 16384) × (length (now regs) ≡ 8) × (length (now out) ≡ 216502) ⌝ }
+{
+    let stand = obey::obey(text, number, image, pad, vram, regs, journal, pc, used, out);
+    show::write_text(out, stand.count);
+    stand
+}
+
+// Each line obeyed as it comes, up to the first that says nothing.
 fn obey_lines(
     fd: i32,
     chunk: &mut [u8],
@@ -15,8 +36,9 @@ fn obey_lines(
     vram: &mut [u8],
     regs: &mut [u8],
     journal: &mut [u32],
+    out: &mut [u8],
 )
-    requires { ⌜ (length (now line) ≡ 65546) × (length (now image) ≡ 32768) × (length (now pad) ≡ 256) × (length (now vram) ≡ 16384) × (length (now regs) ≡ 8) ⌝ }
+    requires { ⌜ (length (now image) ≡ 32768) × (length (now pad) ≡ 256) × (length (now vram) ≡ 16384) × (length (now regs) ≡ 8) × (length (now out) ≡ 216502) ⌝ }
 {
     let mut at = 0;
     let mut have = 0;
@@ -31,14 +53,20 @@ fn obey_lines(
         number += 1;
         at = next.at;
         have = next.have;
-        if next.long {
-            show::show_bad(number);
-            return;
-        }
         let len = next.len;
-        let stand = obey::obey(&line[..len], image, pad, vram, regs, journal, pc, used);
+        let stand = obey_aloud(
+            &line[..len],
+            number,
+            image,
+            pad,
+            vram,
+            regs,
+            journal,
+            pc,
+            used,
+            out,
+        );
         if !stand.good {
-            show::show_bad(number);
             return;
         }
         pc = stand.pc;
@@ -46,7 +74,8 @@ fn obey_lines(
     }
 }
 
-// The machine on the desk: an image of 32,768 zeros, a journal of 16,384 words, and all not set is 0.
+// The machine on the desk: an image of 32,768 zeros, a journal of 16,384 words, and all not set is 0. The longest line that says something, a `grom` line
+// for the whole image, has 65,546 bytes.
 pub fn obey_all(fd: i32) {
     let mut chunk = [0u8; 4096];
     let mut line = [0u8; 65546];
@@ -55,6 +84,7 @@ pub fn obey_all(fd: i32) {
     let mut vram = [0u8; 16384];
     let mut regs = [0u8; 8];
     let mut journal = [0u32; 16384];
+    let mut out = [0u8; 216502];
     obey_lines(
         fd,
         &mut chunk,
@@ -64,5 +94,6 @@ pub fn obey_all(fd: i32) {
         &mut vram,
         &mut regs,
         &mut journal,
+        &mut out,
     );
 }

@@ -1,12 +1,13 @@
 -- The sample of 01's last lines, read and printed by the rules; and lines that are `bad`, each for another reason. By computing.
 -- Assumes nothing.
 use mathlib.Core.Path.{_≡_, refl}
-use mathlib.Core.List.{[], _∷_, _++_, map}
+use mathlib.Core.List.{List, [], _∷_, _++_, map}
+use Prim.Native.Nat.{ℕ}
+use lib.ListN.{replicate}
 use Rattle.lines.specs.Ascii.{ascii}
-use Rattle.lines.specs.Digits.{before, digit, glyph, numeralFrom, numeral, upTo, digitsOf, widthIn, width, showDecimal, showHex, byteOf, bytes, allHex, byteCount, begins}
-use Rattle.lines.specs.Lines.{grom, pad, vdp, sets, runs, bad, placed, setLine, jumping, pcLine, running, runLine, lineOf}
-use Rattle.lines.specs.Shown.{answerLine, pcText, cellText, badLine}
-use Rattle.lines.specs.Shown as shown
+use Rattle.lines.specs.Digits.{before, digit, glyph, numeralFrom, numeral, upTo, digitsOf, widthIn, width, showDecimal, showHex, byteOf, bytes, allHex, byteCount, begins, laid}
+use Rattle.lines.specs.Lines.{grom, pad, sets, runs, bad, placed, setLine, jumping, pcLine, running, runLine, lineOf}
+use Rattle.lines.specs.Shown.{answerLine, pcText, cellText, changed, runLines, badLine}
 
 -- "grom 0000 08412AFB, pad 7E 171F, run 1"
 pub sample-read : map lineOf (ascii "grom\t0000\t08412AFB" ∷ ascii "pad\t7E\t171F" ∷ ascii "run\t1" ∷ [])
@@ -14,10 +15,23 @@ pub sample-read : map lineOf (ascii "grom\t0000\t08412AFB" ∷ ascii "pad\t7E\t1
 unfolding before digit numeralFrom numeral upTo byteOf bytes allHex byteCount begins placed setLine running runLine lineOf
 sample-read = refl
 
+-- parts that were all 0 but for >171F in the pad's >7E, and what the sample's run made of them
+abbrev padWas : List ℕ
+padWas = laid (replicate 256 0) 0x7E (0x17 ∷ 0x1F ∷ [])
+
+abbrev padIs : List ℕ
+padIs = laid (replicate 256 0) 0x7E (0x00 ∷ 0x01 ∷ [])
+
+abbrev vdpWas : List ℕ
+vdpWas = replicate 768 0
+
+abbrev vdpIs : List ℕ
+vdpIs = laid (laid vdpWas 0 (0x2A ∷ [])) 0x2FF (0x2A ∷ [])
+
 -- what it prints, and the line for a twelfth line that says nothing
-pub sample-printed : answerLine 0 1 8 ++ shown.pcLine 4 ++ shown.cellLine pad 0x7E 0 ++ shown.cellLine pad 0x7F 1 ++ shown.cellLine vdp 0 0x2A ++ shown.cellLine vdp 0x2FF 0x2A ++ badLine 12
+pub sample-printed : runLines 0 1 8 4 padWas padIs vdpWas vdpIs [] [] ++ badLine 12
     ≡ ascii "answer\t0\t1\t8\npc\t0004\npad\t7E\t00\npad\t7F\t01\nvdp\t0000\t2A\nvdp\t02FF\t2A\nbad\t12\n"
-unfolding glyph digitsOf widthIn width showDecimal showHex answerLine pcText cellText badLine
+unfolding laid glyph digitsOf widthIn width showDecimal showHex answerLine pcText cellText changed runLines badLine
 sample-printed = refl
 
 -- no line, a space, a carriage return, a small letter, an odd digit, no bytes, a field too many, past the end, three digits, no number, 2^32

@@ -1,11 +1,13 @@
 -- The lines that the program prints: "It prints answer, steps, stores; pc; each cell changed, ascending, pad, vdp, reg."
 use mathlib.Core.Path.{_≡_}
+use mathlib.Core.Bool.{cond}
 use mathlib.Core.List.{List, [], _∷_, _++_}
-use Prim.Native.Nat.{ℕ, _≤_}
+use Prim.Native.Nat.{ℕ, suc, _+_, _≤_}
+use lib.Dec.{eqb}
 use lib.ListN.{length}
 use Rattle.lines.specs.Ascii.{ascii}
 use Rattle.lines.specs.Digits.{showDecimal, showHex, laid}
-use Rattle.lines.specs.Lines.{Part, tab, opening, pcOpening, places}
+use Rattle.lines.specs.Lines.{Part, pad, vdp, reg, tab, opening, pcOpening, places}
 
 abbrev pub feed : List ℕ
 feed = ascii "\n"
@@ -33,8 +35,19 @@ cellLine p at byte = cellText p at byte ++ feed
 unfoldable pub badLine : ℕ → List ℕ
 badLine line = ascii "bad\t" ++ showDecimal line ++ feed
 
--- a line at the start of a buffer of 80 bytes, whose rest stays as it was
-pub record Prints (was is : List ℕ) (count : ℕ) (line : List ℕ) : Type 0 where
-  pub over : is ≡ laid was 0 line
-  pub counts : count ≡ length line
-  pub fits : count ≤ 80
+-- "each cell changed, ascending": of a part that was one list and is another, from a cell on
+unfoldable pub changed : Part → ℕ → List ℕ → List ℕ → List ℕ
+changed p at [] is = []
+changed p at (b ∷ was) [] = []
+changed p at (b ∷ was) (c ∷ is) = cond (eqb b c) [] (cellLine p at c) ++ changed p (suc at) was is
+
+-- "It prints answer, steps, stores; pc; each cell changed, ascending, pad, vdp, reg": each part as it was and as it is
+unfoldable pub runLines : ℕ → ℕ → ℕ → ℕ → List ℕ → List ℕ → List ℕ → List ℕ → List ℕ → List ℕ → List ℕ
+runLines answer steps stores pc padWas padIs vdpWas vdpIs regWas regIs =
+    answerLine answer steps stores ++ pcLine pc ++ changed pad 0 padWas padIs ++ changed vdp 0 vdpWas vdpIs ++ changed reg 0 regWas regIs
+
+-- a text of at most so many bytes put at a place of a buffer, whose rest stays as it was; `past` is the place past it
+pub record Puts (most : ℕ) (was : List ℕ) (at : ℕ) (text is : List ℕ) (past : ℕ) : Type 0 where
+  pub over : is ≡ laid was at text
+  pub ends : past ≡ at + length text
+  pub fits : past ≤ at + most

@@ -1,21 +1,20 @@
-// The lines that the program prints, each at the start of a lent buffer: the answer is how many bytes it has.
+// The lines that the program prints, each put at a place of a lent buffer: the answer is the place past it.
 use crate::digits::glyph;
 use crate::parts::Part;
 use crate::parts::places;
 ghost use mathlib.Core.Path.{_≡_};
-ghost use Prim.Native.Nat.{_+_, _≤_};
+ghost use Prim.Native.Nat.{_+_, _*_, _≤_};
 ghost use lib.ListN.{length};
 ghost use Rattle.lines.specs.Digits;
-ghost use Rattle.lines.specs.Digits.{laid, digitsOf, showDecimal};
+ghost use Rattle.lines.specs.Digits.{digitsOf, showDecimal};
 ghost use Rattle.lines.specs.Lines.{opening};
 ghost use Rattle.lines.specs.Shown;
-ghost use Rattle.lines.specs.Shown.{Prints};
+ghost use Rattle.lines.specs.Shown.{Puts, changed};
 ghost use Rattle.lines.specs.Told.{partOf};
 
-// A word put at a place of the buffer; the answer is the place past it.
-fn put_word(out: &mut [u8; 80], at: usize, word: &[u8]) -> usize
-    requires { ⌜ at + length (now word) ≤ 80 ⌝ }
-    ensures { λ r. ⌜ (now (out .exit) ≡ laid (now (out .entry)) at (now (word .entry))) × (r ≡ at + length (now (word .entry))) ⌝ }
+pub fn put_word(out: &mut [u8], at: usize, word: &[u8]) -> usize
+    requires { ⌜ at + length (now word) ≤ length (now out) ⌝ }
+    ensures { λ r. ⌜ Puts (length (now (word .entry))) (now (out .entry)) at (now (word .entry)) (now (out .exit)) r ⌝ }
 {
     let mut i = 0;
     while i < word.len() {
@@ -27,9 +26,9 @@ fn put_word(out: &mut [u8; 80], at: usize, word: &[u8]) -> usize
 }
 
 // The last `width` digits of a number, from the last one on.
-fn put_digits(out: &mut [u8; 80], at: usize, base: u64, width: usize, n: u64) -> usize
-    requires { ⌜ (1 ≤ base) × (base ≤ 16) × (at + width ≤ 80) ⌝ }
-    ensures { λ r. ⌜ (now (out .exit) ≡ laid (now (out .entry)) at (digitsOf base width n)) × (r ≡ at + width) ⌝ }
+fn put_digits(out: &mut [u8], at: usize, base: u64, width: usize, n: u64) -> usize
+    requires { ⌜ (1 ≤ base) × (base ≤ 16) × (at + width ≤ length (now out)) ⌝ }
+    ensures { λ r. ⌜ Puts width (now (out .entry)) at (digitsOf base width n) (now (out .exit)) r ⌝ }
 {
     let mut left = width;
     let mut m = n;
@@ -56,31 +55,33 @@ fn width_of(n: u64) -> usize
     k
 }
 
-fn put_decimal(out: &mut [u8; 80], at: usize, n: u64) -> usize
-    requires { ⌜ at + 20 ≤ 80 ⌝ }
-    ensures { λ r. ⌜ (now (out .exit) ≡ laid (now (out .entry)) at (showDecimal n)) × (r ≡ at + length (showDecimal n)) × (r ≤ at + 20) ⌝ }
+fn put_decimal(out: &mut [u8], at: usize, n: u64) -> usize
+    requires { ⌜ at + 20 ≤ length (now out) ⌝ }
+    ensures { λ r. ⌜ Puts 20 (now (out .entry)) at (showDecimal n) (now (out .exit)) r ⌝ }
 {
     let width = width_of(n);
     put_digits(out, at, 10, width, n)
 }
 
 // A part's keyword and a tab.
-fn put_opening(out: &mut [u8; 80], part: Part) -> usize
-    ensures { λ r. ⌜ (now (out .exit) ≡ laid (now (out .entry)) 0 (opening (partOf part))) × (r ≡ length (opening (partOf part))) ⌝ }
+fn put_opening(out: &mut [u8], at: usize, part: Part) -> usize
+    requires { ⌜ at + 5 ≤ length (now out) ⌝ }
+    ensures { λ r. ⌜ Puts 5 (now (out .entry)) at (opening (partOf part)) (now (out .exit)) r ⌝ }
 {
     match part {
-        Part::Grom => put_word(out, 0, b"grom\t"),
-        Part::Pad => put_word(out, 0, b"pad\t"),
-        Part::Vdp => put_word(out, 0, b"vdp\t"),
-        Part::Reg => put_word(out, 0, b"reg\t"),
+        Part::Grom => put_word(out, at, b"grom\t"),
+        Part::Pad => put_word(out, at, b"pad\t"),
+        Part::Vdp => put_word(out, at, b"vdp\t"),
+        Part::Reg => put_word(out, at, b"reg\t"),
     }
 }
 
 // The answer of a run, its steps and its stores.
-pub fn put_answer(out: &mut [u8; 80], answer: u8, steps: u32, stores: u64) -> usize
-    ensures { λ r. ⌜ Prints (now (out .entry)) (now (out .exit)) r (Shown.answerLine answer steps stores) ⌝ }
+pub fn put_answer(out: &mut [u8], at: usize, answer: u8, steps: u32, stores: u64) -> usize
+    requires { ⌜ at + 70 ≤ length (now out) ⌝ }
+    ensures { λ r. ⌜ Puts 70 (now (out .entry)) at (Shown.answerLine answer steps stores) (now (out .exit)) r ⌝ }
 {
-    let a = put_word(out, 0, b"answer\t");
+    let a = put_word(out, at, b"answer\t");
     let b = put_decimal(out, a, answer as u64);
     let c = put_word(out, b, b"\t");
     let d = put_decimal(out, c, steps as u64);
@@ -90,31 +91,52 @@ pub fn put_answer(out: &mut [u8; 80], answer: u8, steps: u32, stores: u64) -> us
 }
 
 // The program address.
-pub fn put_pc(out: &mut [u8; 80], pc: u16) -> usize
-    ensures { λ r. ⌜ Prints (now (out .entry)) (now (out .exit)) r (Shown.pcLine pc) ⌝ }
+pub fn put_pc(out: &mut [u8], at: usize, pc: u16) -> usize
+    requires { ⌜ at + 8 ≤ length (now out) ⌝ }
+    ensures { λ r. ⌜ Puts 8 (now (out .entry)) at (Shown.pcLine pc) (now (out .exit)) r ⌝ }
 {
-    let a = put_word(out, 0, b"pc\t");
+    let a = put_word(out, at, b"pc\t");
     let b = put_digits(out, a, 16, 4, pc as u64);
     put_word(out, b, b"\n")
 }
 
 // A cell that a run changed.
-pub fn put_cell(out: &mut [u8; 80], part: Part, at: u16, byte: u8) -> usize
-    ensures { λ r. ⌜ Prints (now (out .entry)) (now (out .exit)) r (Shown.cellLine (partOf part) at byte) ⌝ }
+pub fn put_cell(out: &mut [u8], at: usize, part: Part, cell: u16, byte: u8) -> usize
+    requires { ⌜ at + 13 ≤ length (now out) ⌝ }
+    ensures { λ r. ⌜ Puts 13 (now (out .entry)) at (Shown.cellLine (partOf part) cell byte) (now (out .exit)) r ⌝ }
 {
-    let a = put_opening(out, part);
+    let a = put_opening(out, at, part);
     let digits = places(part);
-    let b = put_digits(out, a, 16, digits, at as u64);
+    let b = put_digits(out, a, 16, digits, cell as u64);
     let c = put_word(out, b, b"\t");
     let d = put_digits(out, c, 16, 2, byte as u64);
     put_word(out, d, b"\n")
 }
 
-// The number of a line that says nothing.
-pub fn put_bad(out: &mut [u8; 80], line: u64) -> usize
-    ensures { λ r. ⌜ Prints (now (out .entry)) (now (out .exit)) r (Shown.badLine line) ⌝ }
+// Each cell of a part that is not as it was, ascending.
+pub fn put_changed(out: &mut [u8], from: usize, part: Part, was: &[u8], is: &[u8]) -> usize
+    requires { ⌜ (length (now is) ≤ 65535) × (length (now is) ≡ length (now was)) × (from + 13 * length (now is) ≤ length (now out)) ⌝ }
+    ensures { λ r. ⌜ Puts (13 * length (now (is .entry))) (now (out .entry)) from (changed (partOf part) 0 (now (was .entry)) (now (is .entry))) (now (out .exit)) r ⌝ }
 {
-    let a = put_word(out, 0, b"bad\t");
+    let mut past = from;
+    let mut cell: u16 = 0;
+    while (cell as usize) < is.len() {
+        let at = cell;
+        let i = at as usize;
+        cell += 1;
+        if was[i] != is[i] {
+            past = put_cell(out, past, part, at, is[i]);
+        }
+    }
+    past
+}
+
+// The number of a line that says nothing.
+pub fn put_bad(out: &mut [u8], at: usize, line: u64) -> usize
+    requires { ⌜ at + 25 ≤ length (now out) ⌝ }
+    ensures { λ r. ⌜ Puts 25 (now (out .entry)) at (Shown.badLine line) (now (out .exit)) r ⌝ }
+{
+    let a = put_word(out, at, b"bad\t");
     let b = put_decimal(out, a, line);
     put_word(out, b, b"\n")
 }

@@ -2,6 +2,7 @@
 use crate::fields;
 use bench::runs::Report;
 use desk::obey;
+use desk::obey::Stand;
 use lines::print;
 use lines::read;
 use lines::read::Line;
@@ -33,6 +34,22 @@ struct Course {
     ran: bool,
     answered: bool,
     good: bool,
+}
+
+// A field that is no run, obeyed: what it prints is of no use here.
+fn obey_field(
+    text: &[u8],
+    image: &mut [u8],
+    pad: &mut [u8],
+    vram: &mut [u8],
+    regs: &mut [u8],
+    journal: &mut [u32],
+    pc: u16,
+) -> Stand
+    requires { ⌜ (length (now image) ≡ 32768) × (length (now pad) ≡ 256) × (length (now vram) ≡ 16384) × (length (now regs) ≡ 8) ⌝ }
+{
+    let mut out = [0u8; 216502];
+    obey::obey(text, 0, image, pad, vram, regs, journal, pc, 0, &mut out)
 }
 
 // Each field obeyed, up to a run. A field that is the answer line is none to obey.
@@ -71,7 +88,7 @@ fn obey_fields(
                 good: true,
             };
         }
-        let stand = obey::obey(&text[..len], image, pad, vram, regs, journal, pc, 0);
+        let stand = obey_field(&text[..len], image, pad, vram, regs, journal, pc);
         pc = stand.pc;
         if !stand.good {
             return Course {
@@ -109,7 +126,7 @@ fn as_said(
     requires { ⌜ (length (now image) ≡ 32768) × (length (now pad) ≡ 256) × (length (now vram) ≡ 16384) × (length (now regs) ≡ 8) ⌝ }
 {
     let mut line = [0u8; 80];
-    let count = print::put_answer(&mut line, r.answer, r.steps, r.stores);
+    let count = print::put_answer(&mut line, 0, r.answer, r.steps, r.stores);
     let answer = fields::unended(&line, count);
     let course = obey_fields(case, first, answer, text, image, pad, vram, regs, journal);
     if course.ran {

@@ -2,8 +2,6 @@
 use crate::cases;
 use crate::fields;
 use desk::input;
-ghost use mathlib.Core.Path.{_≡_};
-ghost use lib.ListN.{length};
 
 // A case's first field, after `ok` or `differs`.
 fn judge(case: &[u8], text: &mut [u8]) {
@@ -23,9 +21,7 @@ fn judge(case: &[u8], text: &mut [u8]) {
     io::write_all(1, b"\n");
 }
 
-fn judge_lines(fd: i32, chunk: &mut [u8], line: &mut [u8], text: &mut [u8])
-    requires { ⌜ length (now line) ≡ 65546 ⌝ }
-{
+fn judge_lines(fd: i32, chunk: &mut [u8], line: &mut [u8], text: &mut [u8]) {
     let mut at = 0;
     let mut have = 0;
     let mut number: u64 = 0;

@@ -1,7 +1,6 @@
 -- The pieces, one after the other.
-use native.Mathlib.Omega.{arith}
 use Rattle.lines.specs.Shown.{answerLine}
-use Rattle.lines.proofs.Printing.{begun, more, printed}
+use Rattle.lines.proofs.Printing.{more}
 use borrow.Author.Needs.{needs}
 use Rattle.lines.proofs.print.put_answer.Statement.{statement}
 use Rattle.lines.proofs.print.put_answer.Tie as tie
@@ -39,30 +38,21 @@ slice-aggregate-put-word-4 c = search needs
 put-word-requires-4 : tie.Need-put-word-requires-4
 put-word-requires-4 c κs = search needs
 
+same-length : tie.Need-same-length
+same-length c = search needs
+
 returns : tie.Need-returns
 unfolding answerLine
 returns c =
-    let at-put-word3 = c .before .before .before .before .before in
-    let at-put-decimal2 = at-put-word3 .before .before .before in
-    let at-put-word2 = at-put-decimal2 .before .before in
-    let at-put-decimal = at-put-word2 .before .before .before in
-    let at-put-word = at-put-decimal .before .before in
-    let one = begun _ (at-put-word .put-word .ensures .0) (at-put-word .put-word .ensures .1) in
-    let two = more one _ (at-put-decimal .put-decimal .ensures .0) (at-put-decimal .put-decimal .ensures .1) in
-    let three = more two _ (at-put-word2 .put-word2 .ensures .0) (at-put-word2 .put-word2 .ensures .1) in
-    let four = more three _ (at-put-decimal2 .put-decimal2 .ensures .0) (at-put-decimal2 .put-decimal2 .ensures .1) in
-    let five = more four _ (at-put-word3 .put-word3 .ensures .0) (at-put-word3 .put-word3 .ensures .1) in
-    let six = more five _ (c .before .before .before .put-decimal3 .ensures .0) (c .before .before .before .put-decimal3 .ensures .1) in
-    printed (more six _ (c .put-word4 .ensures .0) (c .put-word4 .ensures .1))
-    (omega (
-      arith,
-      at-put-word .put-word .ensures .1,
-      at-put-decimal .put-decimal .ensures .2,
-      at-put-word2 .put-word2 .ensures .1,
-      at-put-decimal2 .put-decimal2 .ensures .2,
-      at-put-word3 .put-word3 .ensures .1,
-      c .before .before .before .put-decimal3 .ensures .2,
-    ))
+    let at-put-decimal3 = c .before .before .before .before .before .before .before in
+    let at-put-word3 = at-put-decimal3 .before .before .before .before in
+    let at-put-decimal2 = at-put-word3 .before .before .before .before .before in
+    let at-put-word2 = at-put-decimal2 .before .before .before .before in
+    let at-put-decimal = at-put-word2 .before .before .before .before .before in
+    let at-put-word = at-put-decimal .before .before .before .before in
+    let two = more (at-put-word .put-word .ensures) (at-put-decimal .put-decimal .ensures) in
+    let four = more (more two (at-put-word2 .put-word2 .ensures)) (at-put-decimal2 .put-decimal2 .ensures) in
+    more (more (more four (at-put-word3 .put-word3 .ensures)) (at-put-decimal3 .put-decimal3 .ensures)) (c .before .before .put-word4 .ensures)
 
 pub put-answer-spec : {M : Type 1} → statement M
 put-answer-spec =
@@ -79,4 +69,5 @@ put-answer-spec =
     put-decimal-requires-3
     slice-aggregate-put-word-4
     put-word-requires-4
+    same-length
     returns)

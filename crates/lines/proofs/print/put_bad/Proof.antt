@@ -1,7 +1,6 @@
 -- The pieces, one after the other.
-use native.Mathlib.Omega.{arith}
 use Rattle.lines.specs.Shown.{badLine}
-use Rattle.lines.proofs.Printing.{begun, more, printed}
+use Rattle.lines.proofs.Printing.{more}
 use borrow.Author.Needs.{needs}
 use Rattle.lines.proofs.print.put_bad.Statement.{statement}
 use Rattle.lines.proofs.print.put_bad.Tie as tie
@@ -21,13 +20,15 @@ slice-aggregate-put-word-2 c = search needs
 put-word-requires-2 : tie.Need-put-word-requires-2
 put-word-requires-2 c κs = search needs
 
+same-length : tie.Need-same-length
+same-length c = search needs
+
 returns : tie.Need-returns
 unfolding badLine
 returns c =
-    let at-put-word = c .before .before .before .before .before in
-    let one = begun _ (at-put-word .put-word .ensures .0) (at-put-word .put-word .ensures .1) in
-    let two = more one _ (c .before .before .before .put-decimal .ensures .0) (c .before .before .before .put-decimal .ensures .1) in
-    printed (more two _ (c .put-word2 .ensures .0) (c .put-word2 .ensures .1)) (omega arith)
+    let at-put-decimal = c .before .before .before .before .before .before .before in
+    let at-put-word = at-put-decimal .before .before .before .before in
+    more (more (at-put-word .put-word .ensures) (at-put-decimal .put-decimal .ensures)) (c .before .before .put-word2 .ensures)
 
 pub put-bad-spec : {M : Type 1} → statement M
 put-bad-spec =
@@ -38,4 +39,5 @@ put-bad-spec =
     put-decimal-requires
     slice-aggregate-put-word-2
     put-word-requires-2
+    same-length
     returns)

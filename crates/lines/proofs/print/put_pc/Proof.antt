@@ -1,8 +1,7 @@
 -- The pieces, one after the other.
-use mathlib.Core.Path.{refl}
-use native.Mathlib.Omega.{arith}
+use Rattle.lines.specs.Digits.{showHex}
 use Rattle.lines.specs.Shown.{pcText}
-use Rattle.lines.proofs.Printing.{begun, more, more-hex, printed}
+use Rattle.lines.proofs.Printing.{more}
 use borrow.Author.Needs.{needs}
 use Rattle.lines.proofs.print.put_pc.Statement.{statement}
 use Rattle.lines.proofs.print.put_pc.Tie as tie
@@ -22,13 +21,15 @@ slice-aggregate-put-word-2 c = search needs
 put-word-requires-2 : tie.Need-put-word-requires-2
 put-word-requires-2 c κs = search needs
 
+same-length : tie.Need-same-length
+same-length c = search needs
+
 returns : tie.Need-returns
-unfolding pcText
+unfolding pcText showHex
 returns c =
-    let at-put-word = c .before .before .before .before .before in
-    let one = begun _ (at-put-word .put-word .ensures .0) (at-put-word .put-word .ensures .1) in
-    let two = more-hex one _ _ refl (c .before .before .before .put-digits .ensures .0) (c .before .before .before .put-digits .ensures .1) in
-    printed (more two _ (c .put-word2 .ensures .0) (c .put-word2 .ensures .1)) (omega arith)
+    let at-put-digits = c .before .before .before .before .before .before .before in
+    let at-put-word = at-put-digits .before .before .before .before in
+    more (more (at-put-word .put-word .ensures) (at-put-digits .put-digits .ensures)) (c .before .before .put-word2 .ensures)
 
 pub put-pc-spec : {M : Type 1} → statement M
 put-pc-spec =
@@ -39,4 +40,5 @@ put-pc-spec =
     put-digits-requires
     slice-aggregate-put-word-2
     put-word-requires-2
+    same-length
     returns)

@@ -70,73 +70,73 @@ same-length-6 c = search needs
 returns : tie.Need-returns Inv-loop μ-loop
 returns c = search needs
 
-slice-reshare-prefix-obey : tie.Need-slice-reshare-prefix-obey Inv-loop μ-loop
-slice-reshare-prefix-obey c = search needs
+slice-reshare-prefix-obey-field : tie.Need-slice-reshare-prefix-obey-field Inv-loop μ-loop
+slice-reshare-prefix-obey-field c = search needs
 
-slice-aggregate-obey : tie.Need-slice-aggregate-obey Inv-loop μ-loop
-slice-aggregate-obey c = sym (length-take-le _ _ (search needs))
+slice-aggregate-obey-field : tie.Need-slice-aggregate-obey-field Inv-loop μ-loop
+slice-aggregate-obey-field c = sym (length-take-le _ _ (search needs))
 
-obey-requires : tie.Need-obey-requires Inv-loop μ-loop
-obey-requires c κs = search needs
+obey-field-requires : tie.Need-obey-field-requires Inv-loop μ-loop
+obey-field-requires c κs = search needs
 
 same-length-7 : tie.Need-same-length-7 Inv-loop μ-loop
 same-length-7 c =
-    let at-obey = c .before .before .before .before .before .before .before .before .before .before .before .before in
-    let at-as-line = at-obey .before .before .before .before .before .before .before .before .before .before .before .before .before .before .before in
+    let at-obey-field = c .before .before .before .before .before .before .before .before .before .before .before .before in
+    let at-as-line = at-obey-field .before .before .before .before .before .before .before .before .before .before .before .before .before .before .before in
     let at-loop = at-as-line .before .before .before .before in
     at-as-line .as-line .kept .1 .1 .1 .0 ∙ at-loop .loop .inv .0
 
 same-length-8 : tie.Need-same-length-8 Inv-loop μ-loop
 same-length-8 c =
-    let at-obey = c .before .before .before .before .before .before .before .before .before .before .before .before in
-    let at-loop = at-obey .before .before .before .before .before .before .before .before .before .before .before .before .before .before .before .before .before .before .before in
-    at-obey .obey .kept .1 .0 ∙ at-loop .loop .inv .1
+    let at-obey-field = c .before .before .before .before .before .before .before .before .before .before .before .before in
+    let at-loop = at-obey-field .before .before .before .before .before .before .before .before .before .before .before .before .before .before .before .before .before .before .before in
+    at-obey-field .obey-field .kept .1 .0 ∙ at-loop .loop .inv .1
 
 same-length-9 : tie.Need-same-length-9 Inv-loop μ-loop
 same-length-9 c =
-    let at-obey = c .before .before .before .before .before .before .before .before .before .before .before .before in
-    let at-loop = at-obey .before .before .before .before .before .before .before .before .before .before .before .before .before .before .before .before .before .before .before in
-    at-obey .obey .kept .1 .1 .0 ∙ at-loop .loop .inv .2
+    let at-obey-field = c .before .before .before .before .before .before .before .before .before .before .before .before in
+    let at-loop = at-obey-field .before .before .before .before .before .before .before .before .before .before .before .before .before .before .before .before .before .before .before in
+    at-obey-field .obey-field .kept .1 .1 .0 ∙ at-loop .loop .inv .2
 
 same-length-10 : tie.Need-same-length-10 Inv-loop μ-loop
 same-length-10 c =
-    let at-obey = c .before .before .before .before .before .before .before .before .before .before .before .before in
-    let at-loop = at-obey .before .before .before .before .before .before .before .before .before .before .before .before .before .before .before .before .before .before .before in
-    at-obey .obey .kept .1 .1 .1 .0 ∙ at-loop .loop .inv .3
+    let at-obey-field = c .before .before .before .before .before .before .before .before .before .before .before .before in
+    let at-loop = at-obey-field .before .before .before .before .before .before .before .before .before .before .before .before .before .before .before .before .before .before .before in
+    at-obey-field .obey-field .kept .1 .1 .1 .0 ∙ at-loop .loop .inv .3
 
 same-length-11 : tie.Need-same-length-11 Inv-loop μ-loop
 same-length-11 c =
-    let at-obey = c .before .before .before .before .before .before .before .before .before .before .before .before in
-    let at-loop = at-obey .before .before .before .before .before .before .before .before .before .before .before .before .before .before .before .before .before .before .before in
-    at-obey .obey .kept .1 .1 .1 .1 .0 ∙ at-loop .loop .inv .4
+    let at-obey-field = c .before .before .before .before .before .before .before .before .before .before .before .before in
+    let at-loop = at-obey-field .before .before .before .before .before .before .before .before .before .before .before .before .before .before .before .before .before .before .before in
+    at-obey-field .obey-field .kept .1 .1 .1 .1 .0 ∙ at-loop .loop .inv .4
 
 same-length-12 : tie.Need-same-length-12 Inv-loop μ-loop
 same-length-12 c =
-    let at-obey = c .before .before .before .before .before .before .before .before .before .before .before .before in
-    let at-loop = at-obey .before .before .before .before .before .before .before .before .before .before .before .before .before .before .before .before .before .before .before in
-    at-obey .obey .kept .1 .1 .1 .1 .1 .0 ∙ at-loop .loop .inv .5
+    let at-obey-field = c .before .before .before .before .before .before .before .before .before .before .before .before in
+    let at-loop = at-obey-field .before .before .before .before .before .before .before .before .before .before .before .before .before .before .before .before .before .before .before in
+    at-obey-field .obey-field .kept .1 .1 .1 .1 .1 .0 ∙ at-loop .loop .inv .5
 
 returns-2 : tie.Need-returns-2 Inv-loop μ-loop
 returns-2 c = search needs
 
 loop-less-2 : tie.Need-loop-less-2 Inv-loop μ-loop
 loop-less-2 c =
-    let at-obey = c .before .before .before .before .before .before .before .before .before .before .before .before in
-    let at-field-at = at-obey .before .before .before .before .before .before .before .before .before .before .before .before .before .before .before .before .before in
+    let at-obey-field = c .before .before .before .before .before .before .before .before .before .before .before .before in
+    let at-field-at = at-obey-field .before .before .before .before .before .before .before .before .before .before .before .before .before .before .before .before .before in
     let at-loop-test = at-field-at .before in
     omega (arith, at-field-at .field-at .ensures .2, at-loop-test .loop-test .taken)
 
 loop-again-2 : tie.Need-loop-again-2 Inv-loop μ-loop
 loop-again-2 c =
-    let at-obey = c .before .before .before .before .before .before .before .before .before .before .before .before in
-    let at-as-line = at-obey .before .before .before .before .before .before .before .before .before .before .before .before .before .before .before in
+    let at-obey-field = c .before .before .before .before .before .before .before .before .before .before .before .before in
+    let at-as-line = at-obey-field .before .before .before .before .before .before .before .before .before .before .before .before .before .before .before in
     let at-loop = at-as-line .before .before .before .before in (
       at-as-line .as-line .kept .1 .1 .1 .0 ∙ at-loop .loop .inv .0,
-      at-obey .obey .kept .1 .0 ∙ at-loop .loop .inv .1,
-      at-obey .obey .kept .1 .1 .0 ∙ at-loop .loop .inv .2,
-      at-obey .obey .kept .1 .1 .1 .0 ∙ at-loop .loop .inv .3,
-      at-obey .obey .kept .1 .1 .1 .1 .0 ∙ at-loop .loop .inv .4,
-      at-obey .obey .kept .1 .1 .1 .1 .1 .0 ∙ at-loop .loop .inv .5,
+      at-obey-field .obey-field .kept .1 .0 ∙ at-loop .loop .inv .1,
+      at-obey-field .obey-field .kept .1 .1 .0 ∙ at-loop .loop .inv .2,
+      at-obey-field .obey-field .kept .1 .1 .1 .0 ∙ at-loop .loop .inv .3,
+      at-obey-field .obey-field .kept .1 .1 .1 .1 .0 ∙ at-loop .loop .inv .4,
+      at-obey-field .obey-field .kept .1 .1 .1 .1 .1 .0 ∙ at-loop .loop .inv .5,
     )
 
 same-length-13 : tie.Need-same-length-13 Inv-loop μ-loop
@@ -184,9 +184,9 @@ obey-fields-spec =
     same-length-5
     same-length-6
     returns
-    slice-reshare-prefix-obey
-    slice-aggregate-obey
-    obey-requires
+    slice-reshare-prefix-obey-field
+    slice-aggregate-obey-field
+    obey-field-requires
     same-length-7
     same-length-8
     same-length-9

@@ -2,8 +2,8 @@
 use mathlib.Core.Path.{sym}
 use lib.Seq.{length-take-le}
 use borrow.Author.Needs.{needs}
-use Rattle.desk.proofs.show.write_line.Statement.{statement}
-use Rattle.desk.proofs.show.write_line.Tie as tie
+use Rattle.desk.proofs.show.write_text.Statement.{statement}
+use Rattle.desk.proofs.show.write_text.Tie as tie
 
 slice-aggregate-write-all : tie.Need-slice-aggregate-write-all
 slice-aggregate-write-all c = sym (length-take-le _ _ (c .before .before .pre))
@@ -14,5 +14,5 @@ write-all-requires c κs = search needs
 returns : tie.Need-returns
 returns c = search needs
 
-pub write-line-spec : {M : Type 1} → statement M
-write-line-spec = tie.close (tie.spec slice-aggregate-write-all write-all-requires returns)
+pub write-text-spec : {M : Type 1} → statement M
+write-text-spec = tie.close (tie.spec slice-aggregate-write-all write-all-requires returns)
