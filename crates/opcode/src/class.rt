@@ -10,6 +10,7 @@ ghost use Rattle.rules.specs.Opcodes;
 ghost use Rattle.rules.specs.Opcodes.{row, stops, does, ex, lowRows, oneRows, twoRows, moveClass, classOf};
 ghost use Rattle.opcode.specs.Classes.{meant, said};
 
+// What an opcode does. Flags say, in this order: the source is immediate, the operands are words. A branch has the condition bit that takes it, and the upper bits of its target.
 pub enum Task {
     Rtn,
     Rtnc,
@@ -21,14 +22,14 @@ pub enum Task {
     Fmt,
     Test(Test),
     Move(u8),
-    Branch { set: bool, upper: u8 },
-    One { op: One, wide: bool },
+    Branch(bool, u8),
+    One(One, bool),
     Fetch(bool),
     Case(bool),
     Push(bool),
-    Two { op: Two, imm: bool, wide: bool },
-    Mul { imm: bool, wide: bool },
-    Div { imm: bool, wide: bool },
+    Two(Two, bool, bool),
+    Mul(bool, bool),
+    Div(bool, bool),
     Ex(bool),
 }
 
@@ -86,24 +87,18 @@ fn one_class(row: u8, wide: bool) -> Class
     ensures { λ r. ⌜ meant r ≡ said (Opcodes.row row (oneRows wide)) ⌝ }
 {
     match row {
-        0 => Class::Does(Task::One { op: One::Abs, wide }),
-        1 => Class::Does(Task::One { op: One::Neg, wide }),
-        2 => Class::Does(Task::One { op: One::Inv, wide }),
-        3 => Class::Does(Task::One { op: One::Clr, wide }),
+        0 => Class::Does(Task::One(One::Abs, wide)),
+        1 => Class::Does(Task::One(One::Neg, wide)),
+        2 => Class::Does(Task::One(One::Inv, wide)),
+        3 => Class::Does(Task::One(One::Clr, wide)),
         4 => Class::Does(Task::Fetch(wide)),
         5 => Class::Does(Task::Case(wide)),
         6 => Class::Does(Task::Push(wide)),
-        7 => Class::Does(Task::One { op: One::Cz, wide }),
-        8 => Class::Does(Task::One { op: One::Inc, wide }),
-        9 => Class::Does(Task::One { op: One::Dec, wide }),
-        10 => Class::Does(Task::One {
-            op: One::Inct,
-            wide,
-        }),
-        11 => Class::Does(Task::One {
-            op: One::Dect,
-            wide,
-        }),
+        7 => Class::Does(Task::One(One::Cz, wide)),
+        8 => Class::Does(Task::One(One::Inc, wide)),
+        9 => Class::Does(Task::One(One::Dec, wide)),
+        10 => Class::Does(Task::One(One::Inct, wide)),
+        11 => Class::Does(Task::One(One::Dect, wide)),
         _ => Class::Stops(NO_SUCH),
     }
 }
@@ -123,89 +118,25 @@ fn two_class(row: u8, imm: bool, wide: bool) -> Class
     ensures { λ r. ⌜ meant r ≡ said (Opcodes.row row (twoRows imm wide)) ⌝ }
 {
     match row {
-        0 => Class::Does(Task::Two {
-            op: Two::Add,
-            imm,
-            wide,
-        }),
-        1 => Class::Does(Task::Two {
-            op: Two::Sub,
-            imm,
-            wide,
-        }),
-        2 => Class::Does(Task::Mul { imm, wide }),
-        3 => Class::Does(Task::Div { imm, wide }),
-        4 => Class::Does(Task::Two {
-            op: Two::And,
-            imm,
-            wide,
-        }),
-        5 => Class::Does(Task::Two {
-            op: Two::Or,
-            imm,
-            wide,
-        }),
-        6 => Class::Does(Task::Two {
-            op: Two::Xor,
-            imm,
-            wide,
-        }),
-        7 => Class::Does(Task::Two {
-            op: Two::St,
-            imm,
-            wide,
-        }),
+        0 => Class::Does(Task::Two(Two::Add, imm, wide)),
+        1 => Class::Does(Task::Two(Two::Sub, imm, wide)),
+        2 => Class::Does(Task::Mul(imm, wide)),
+        3 => Class::Does(Task::Div(imm, wide)),
+        4 => Class::Does(Task::Two(Two::And, imm, wide)),
+        5 => Class::Does(Task::Two(Two::Or, imm, wide)),
+        6 => Class::Does(Task::Two(Two::Xor, imm, wide)),
+        7 => Class::Does(Task::Two(Two::St, imm, wide)),
         8 => ex_class(imm, wide),
-        9 => Class::Does(Task::Two {
-            op: Two::Ch,
-            imm,
-            wide,
-        }),
-        10 => Class::Does(Task::Two {
-            op: Two::Che,
-            imm,
-            wide,
-        }),
-        11 => Class::Does(Task::Two {
-            op: Two::Cgt,
-            imm,
-            wide,
-        }),
-        12 => Class::Does(Task::Two {
-            op: Two::Cge,
-            imm,
-            wide,
-        }),
-        13 => Class::Does(Task::Two {
-            op: Two::Ceq,
-            imm,
-            wide,
-        }),
-        14 => Class::Does(Task::Two {
-            op: Two::Clog,
-            imm,
-            wide,
-        }),
-        15 => Class::Does(Task::Two {
-            op: Two::Sra,
-            imm,
-            wide,
-        }),
-        16 => Class::Does(Task::Two {
-            op: Two::Sll,
-            imm,
-            wide,
-        }),
-        17 => Class::Does(Task::Two {
-            op: Two::Srl,
-            imm,
-            wide,
-        }),
-        18 => Class::Does(Task::Two {
-            op: Two::Src,
-            imm,
-            wide,
-        }),
+        9 => Class::Does(Task::Two(Two::Ch, imm, wide)),
+        10 => Class::Does(Task::Two(Two::Che, imm, wide)),
+        11 => Class::Does(Task::Two(Two::Cgt, imm, wide)),
+        12 => Class::Does(Task::Two(Two::Cge, imm, wide)),
+        13 => Class::Does(Task::Two(Two::Ceq, imm, wide)),
+        14 => Class::Does(Task::Two(Two::Clog, imm, wide)),
+        15 => Class::Does(Task::Two(Two::Sra, imm, wide)),
+        16 => Class::Does(Task::Two(Two::Sll, imm, wide)),
+        17 => Class::Does(Task::Two(Two::Srl, imm, wide)),
+        18 => Class::Does(Task::Two(Two::Src, imm, wide)),
         _ => Class::Stops(NO_SUCH),
     }
 }
@@ -246,13 +177,7 @@ pub fn class_of(op: u8) -> Class
         return move_class(op);
     }
     if op < 0x60 {
-        return Class::Does(Task::Branch {
-            set: false,
-            upper: op % 32,
-        });
+        return Class::Does(Task::Branch(false, op % 32));
     }
-    Class::Does(Task::Branch {
-        set: true,
-        upper: op % 32,
-    })
+    Class::Does(Task::Branch(true, op % 32))
 }

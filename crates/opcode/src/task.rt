@@ -31,12 +31,12 @@ pub fn perform(
         Task::Fmt => format::codes::format(image, pad, vram, journal, m),
         Task::Test(t) => flow::status::test_status(pad, journal, m, t),
         Task::Move(bits) => block::whole::move_block(image, pad, vram, regs, journal, m, bits),
-        Task::Branch { set, upper } => flow::branches::branch(image, pad, journal, m, set, upper),
-        Task::One { op, wide } => arith::operations::one(image, pad, vram, journal, m, op, wide),
+        Task::Branch(set, upper) => flow::branches::branch(image, pad, journal, m, set, upper),
+        Task::One(op, wide) => arith::operations::one(image, pad, vram, journal, m, op, wide),
         Task::Fetch(wide) => flow::operands::fetch(image, pad, vram, journal, m, wide),
         Task::Case(wide) => flow::operands::case(image, pad, vram, journal, m, wide),
         Task::Push(wide) => flow::operands::push(image, pad, vram, journal, m, wide),
-        Task::Two { op, imm, wide } => arith::operations::two(
+        Task::Two(op, imm, wide) => arith::operations::two(
             image,
             pad,
             vram,
@@ -46,8 +46,8 @@ pub fn perform(
             imm,
             wide,
         ),
-        Task::Mul { imm, wide } => arith::products::mul(image, pad, vram, journal, m, imm, wide),
-        Task::Div { imm, wide } => arith::products::div(image, pad, vram, journal, m, imm, wide),
+        Task::Mul(imm, wide) => arith::products::mul(image, pad, vram, journal, m, imm, wide),
+        Task::Div(imm, wide) => arith::products::div(image, pad, vram, journal, m, imm, wide),
         Task::Ex(wide) => arith::operations::ex(image, pad, vram, journal, m, wide),
     }
 }
