@@ -30,7 +30,7 @@ obeyed (jumps n) i s = desk i (state n (s .mem))
 obeyed (runs n) i s = desk i (run n i s .end)
 obeyed bad i s = desk i s
 
--- "It prints answer, steps, stores; pc; each cell changed": of pad, VDP RAM and registers as they were before the run
+-- "It prints answer, steps, stores; pc; each cell changed", and "changed means by that run": p, v and g are pad, VDP RAM and registers before it
 abbrev pub runText : List ℕ → List ℕ → List ℕ → Report → List ℕ
 runText p v g r = runLines (r .answer) (r .steps) (r .stores) (r .end .pc) p (r .end .mem .pad) v (r .end .mem .vram) g (r .end .mem .regs)
 
