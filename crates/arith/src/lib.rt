@@ -2,4 +2,3 @@
 pub mod effects;
 pub mod operations;
 pub mod products;
-pub mod targets;

@@ -3,19 +3,15 @@ use crate::effects;
 use crate::effects::Effect;
 use crate::effects::One;
 use crate::effects::Two;
-use crate::targets::read_target;
-use flow::status;
+use machine::cells;
 use machine::pad as cpu;
 use machine::state::Now;
 use operand::places::Place;
+use operand::status;
+use operand::targets::read_target;
 use operand::values;
-ghost use mathlib.Core.Path.{_≡_};
-ghost use mathlib.Core.List.{List};
-ghost use Prim.Native.Nat.{ℕ};
-ghost use lib.ListN.{length};
-ghost use Rattle.rules.specs.Rules.{after};
 ghost use Rattle.rules.specs.Instructions.{storeEffect, oneRule, twoRule, exRule};
-ghost use Rattle.machine.specs.Said.{out};
+ghost use Rattle.machine.specs.Said.{_&_, Does, Image, IsPad, IsVram, Journal, Pad, Vram};
 ghost use Rattle.operand.specs.Places.{cellOf};
 ghost use Rattle.arith.specs.Effects.{oneOf, twoOf, effectOf};
 
@@ -29,16 +25,16 @@ fn store_effect(
     place: Place,
     e: Effect,
 ) -> Now
-    requires { ⌜ (length (now pad) ≡ 256) × (length (now vram) ≡ 16384) ⌝ }
-    ensures { λ r. ⌜ ((i g : List ℕ) → out (now (pad .exit)) (now (vram .exit)) g (now (journal .exit)) r ≡ after i (out (now (pad .entry)) (now (vram .entry)) g (now (journal .entry)) m) (storeEffect wide (cellOf place) (effectOf e))) ⌝ }
+    requires { ⌜ IsPad pad × IsVram vram ⌝ }
+    ensures { λ r. ⌜ Does (storeEffect wide (cellOf place) (effectOf e)) (Pad pad & Vram vram & Journal journal) m r ⌝ }
 {
     match e {
         Effect::Both(s, v) => {
-            let flagged = cpu::poke_pad(pad, journal, m, status::STATUS, s);
+            let flagged = cpu::poke_pad(pad, journal, m, cells::STATUS, s);
             values::result(pad, vram, journal, flagged, wide, place, v)
         }
         Effect::Only(v) => values::result(pad, vram, journal, m, wide, place, v),
-        Effect::Flags(s) => cpu::poke_pad(pad, journal, m, status::STATUS, s),
+        Effect::Flags(s) => cpu::poke_pad(pad, journal, m, cells::STATUS, s),
         Effect::Condition(c) => status::set_condition(pad, journal, m, c),
     }
 }
@@ -52,8 +48,8 @@ pub fn one(
     op: One,
     wide: bool,
 ) -> Now
-    requires { ⌜ (length (now pad) ≡ 256) × (length (now vram) ≡ 16384) ⌝ }
-    ensures { λ r. ⌜ ((g : List ℕ) → out (now (pad .exit)) (now (vram .exit)) g (now (journal .exit)) r ≡ after (now (image .entry)) (out (now (pad .entry)) (now (vram .entry)) g (now (journal .entry)) m) (oneRule (oneOf op) wide)) ⌝ }
+    requires { ⌜ IsPad pad × IsVram vram ⌝ }
+    ensures { λ r. ⌜ Does (oneRule (oneOf op) wide) (Image image & Pad pad & Vram vram & Journal journal) m r ⌝ }
 {
     let target = read_target(image, pad, vram, journal, m, wide);
     let v = target.now;
@@ -73,8 +69,8 @@ pub fn two(
     imm: bool,
     wide: bool,
 ) -> Now
-    requires { ⌜ (length (now pad) ≡ 256) × (length (now vram) ≡ 16384) ⌝ }
-    ensures { λ r. ⌜ ((g : List ℕ) → out (now (pad .exit)) (now (vram .exit)) g (now (journal .exit)) r ≡ after (now (image .entry)) (out (now (pad .entry)) (now (vram .entry)) g (now (journal .entry)) m) (twoRule (twoOf op) imm wide)) ⌝ }
+    requires { ⌜ IsPad pad × IsVram vram ⌝ }
+    ensures { λ r. ⌜ Does (twoRule (twoOf op) imm wide) (Image image & Pad pad & Vram vram & Journal journal) m r ⌝ }
 {
     let target = read_target(image, pad, vram, journal, m, wide);
     let a = target.now;
@@ -93,8 +89,8 @@ pub fn ex(
     m: Now,
     wide: bool,
 ) -> Now
-    requires { ⌜ (length (now pad) ≡ 256) × (length (now vram) ≡ 16384) ⌝ }
-    ensures { λ r. ⌜ ((g : List ℕ) → out (now (pad .exit)) (now (vram .exit)) g (now (journal .exit)) r ≡ after (now (image .entry)) (out (now (pad .entry)) (now (vram .entry)) g (now (journal .entry)) m) (exRule wide)) ⌝ }
+    requires { ⌜ IsPad pad × IsVram vram ⌝ }
+    ensures { λ r. ⌜ Does (exRule wide) (Image image & Pad pad & Vram vram & Journal journal) m r ⌝ }
 {
     let target = read_target(image, pad, vram, journal, m, wide);
     let a = target.now;

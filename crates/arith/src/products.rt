@@ -1,23 +1,20 @@
 // MUL and DIV: the destination is a number of two widths, its high half first.
-use crate::targets::read_target;
-use flow::status;
+use machine::cells;
 use machine::pad as cpu;
 use machine::state::Now;
 use number::products;
 use number::products::Halves;
 use operand::places;
 use operand::places::Place;
+use operand::targets::read_target;
 use operand::values;
 ghost use mathlib.Core.Path.{_≡_};
-ghost use mathlib.Core.List.{List};
-ghost use Prim.Native.Nat.{ℕ, _+_, _≤_, _<_};
-ghost use lib.ListN.{length};
-ghost use Rattle.rules.specs.Rules.{after};
+ghost use Prim.Native.Nat.{_+_, _≤_, _<_};
 ghost use Rattle.rules.specs.Arithmetic.{half, span};
 ghost use Rattle.rules.specs.Operands.{byteCount, past};
 ghost use Rattle.rules.specs.Instructions;
 ghost use Rattle.rules.specs.Instructions.{mulRule, divStatus, divOverflow, divRule};
-ghost use Rattle.machine.specs.Said.{out};
+ghost use Rattle.machine.specs.Said.{_&_, Does, Image, IsPad, IsVram, Journal, Pad, Vram};
 ghost use Rattle.operand.specs.Places.{cellOf};
 ghost use Rattle.arith.specs.Halves.{halves};
 
@@ -40,8 +37,8 @@ fn store_halves(
     place: Place,
     h: Halves,
 ) -> Now
-    requires { ⌜ (length (now pad) ≡ 256) × (length (now vram) ≡ 16384) × (cellOf place .at + byteCount wide ≤ 16384) ⌝ }
-    ensures { λ r. ⌜ ((i g : List ℕ) → out (now (pad .exit)) (now (vram .exit)) g (now (journal .exit)) r ≡ after i (out (now (pad .entry)) (now (vram .entry)) g (now (journal .entry)) m) (halves wide (cellOf place) (h .high) (h .low))) ⌝ }
+    requires { ⌜ IsPad pad × IsVram vram × (cellOf place .at + byteCount wide ≤ 16384) ⌝ }
+    ensures { λ r. ⌜ Does (halves wide (cellOf place) (h .high) (h .low)) (Pad pad & Vram vram & Journal journal) m r ⌝ }
 {
     let first = values::result(pad, vram, journal, m, wide, place, h.high);
     values::result(
@@ -64,8 +61,8 @@ pub fn mul(
     imm: bool,
     wide: bool,
 ) -> Now
-    requires { ⌜ (length (now pad) ≡ 256) × (length (now vram) ≡ 16384) ⌝ }
-    ensures { λ r. ⌜ ((g : List ℕ) → out (now (pad .exit)) (now (vram .exit)) g (now (journal .exit)) r ≡ after (now (image .entry)) (out (now (pad .entry)) (now (vram .entry)) g (now (journal .entry)) m) (mulRule imm wide)) ⌝ }
+    requires { ⌜ IsPad pad × IsVram vram ⌝ }
+    ensures { λ r. ⌜ Does (mulRule imm wide) (Image image & Pad pad & Vram vram & Journal journal) m r ⌝ }
 {
     let target = read_target(image, pad, vram, journal, m, wide);
     let a = target.now;
@@ -88,11 +85,11 @@ fn div_status(wide: bool) -> u8
 
 // The status again, with the overflow bit.
 fn div_overflow(pad: &mut [u8], journal: &mut [u32], m: Now, wide: bool) -> Now
-    requires { ⌜ length (now pad) ≡ 256 ⌝ }
-    ensures { λ r. ⌜ ((i v g : List ℕ) → out (now (pad .exit)) v g (now (journal .exit)) r ≡ after i (out (now (pad .entry)) v g (now (journal .entry)) m) (divOverflow wide)) ⌝ }
+    requires { ⌜ IsPad pad ⌝ }
+    ensures { λ r. ⌜ Does (divOverflow wide) (Pad pad & Journal journal) m r ⌝ }
 {
     let s = div_status(wide) + OVERFLOW;
-    cpu::poke_pad(pad, journal, m, status::STATUS, s)
+    cpu::poke_pad(pad, journal, m, cells::STATUS, s)
 }
 
 // The quotient must be of one width: the high half must be below the divisor.
@@ -107,8 +104,8 @@ fn divided(
     lower: u16,
     b: u16,
 ) -> Now
-    requires { ⌜ (length (now pad) ≡ 256) × (length (now vram) ≡ 16384) × (cellOf place .at + byteCount wide ≤ 16384) × (b < span (half wide)) × (lower < span (half wide)) ⌝ }
-    ensures { λ r. ⌜ ((i g : List ℕ) → out (now (pad .exit)) (now (vram .exit)) g (now (journal .exit)) r ≡ after i (out (now (pad .entry)) (now (vram .entry)) g (now (journal .entry)) m) (Instructions.divided wide (cellOf place) upper lower b)) ⌝ }
+    requires { ⌜ IsPad pad × IsVram vram × (cellOf place .at + byteCount wide ≤ 16384) × (b < span (half wide)) × (lower < span (half wide)) ⌝ }
+    ensures { λ r. ⌜ Does (Instructions.divided wide (cellOf place) upper lower b) (Pad pad & Vram vram & Journal journal) m r ⌝ }
 {
     if b <= upper {
         return div_overflow(pad, journal, m, wide);
@@ -127,14 +124,14 @@ pub fn div(
     imm: bool,
     wide: bool,
 ) -> Now
-    requires { ⌜ (length (now pad) ≡ 256) × (length (now vram) ≡ 16384) ⌝ }
-    ensures { λ r. ⌜ ((g : List ℕ) → out (now (pad .exit)) (now (vram .exit)) g (now (journal .exit)) r ≡ after (now (image .entry)) (out (now (pad .entry)) (now (vram .entry)) g (now (journal .entry)) m) (divRule imm wide)) ⌝ }
+    requires { ⌜ IsPad pad × IsVram vram ⌝ }
+    ensures { λ r. ⌜ Does (divRule imm wide) (Image image & Pad pad & Vram vram & Journal journal) m r ⌝ }
 {
     let target = read_target(image, pad, vram, journal, m, wide);
     let upper = target.now;
     let place = target.place;
     let b = values::source(image, pad, vram, journal, upper, imm, wide);
-    let flagged = cpu::poke_pad(pad, journal, b, status::STATUS, div_status(wide));
+    let flagged = cpu::poke_pad(pad, journal, b, cells::STATUS, div_status(wide));
     let lower = values::standing(pad, vram, flagged, wide, low_half(wide, place));
     divided(
         pad,

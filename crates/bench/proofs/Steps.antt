@@ -20,17 +20,21 @@ use Rattle.rules.proofs.Stores.{memOf, used-after, used-fits}
 use Rattle.rules.proofs.Steps.{Tried, early, late, tried-begin, rollback-step}
 use Rattle.rules.proofs.Replies.{tried-count}
 use Rattle.rules.proofs.Opcodes.{never-done}
-use Rattle.machine.specs.Said.{outs}
+use Rattle.machine.specs.Said.{outs, Stand, stand, outOf, Goes}
+use Rattle.machine.proofs.Chain as chain
 use Rattle.opcode.specs.Classes.{halts, tasks, said}
 use Rattle.bench.specs.Told.{Outcome, outcome, replies, settled}
 
 -- ---- a task attempted
 
--- the calls in a row are the attempt
-pub began : (i : List ℕ) (t : Task) (pc pc₁ : ℕ) (m : Mem) (o₁ o₂ : Out (Unit {0})) {z : ℕ} → z ≡ 0
-    → o₁ ≡ then (outs z pc₁ m) (λ _ pc₂ m₂. takeMark pc pc₂ m₂) → o₂ ≡ after i o₁ (ruleOf t) → o₂ ≡ begin i pc (does t) pc₁ m
+-- past an opcode, which stood at pc, the mark and the task are the rules' attempt
+pub record Tries (i : List ℕ) (t : Task) (pc pc₁ : ℕ) (m : Mem) (u : Stand) : Type 0 where
+  pub is : outOf u ≡ begin i pc (does t) pc₁ m
+
+pub tries : {i : List ℕ} {t : Task} {pc pc₁ z : ℕ} {m : Mem} {s u : Stand} → z ≡ 0
+    → outOf s ≡ then (outs z pc₁ m) (λ _ pc₂ m₂. takeMark pc pc₂ m₂) → Goes i s (ruleOf t) tt u → Tries i t pc pc₁ m u
 unfolding begin outs
-began i t pc pc₁ m o₁ o₂ h e f = f ∙ ap (λ (x : Out (Unit {0})). after i x (ruleOf t)) (e ∙ rw h)
+tries {i = i} {t = t} h e g = record { is = chain.done g ∙ ap (λ (x : Out (Unit {0})). after i x (ruleOf t)) (e ∙ rw h) }
 
 -- ---- what it leaves
 
@@ -47,9 +51,9 @@ tried-fits : {pc : ℕ} {m : Mem} {ss : List Store} {o : Out (Unit {0})} → Tri
 tried-fits early l = l
 tried-fits {pc} {m} (late h t) l = used-fits t (rw (length-set (m .journal) (m .used) (markWord pc)) h)
 
-module _ (i : List ℕ) (t : Task) (pc pc₁ : ℕ) (m : Mem) (a pc₂ : ℕ) (m₂ : Mem) (e : outs a pc₂ m₂ ≡ begin i pc (does t) pc₁ m) where
+module _ {i : List ℕ} {t : Task} {pc pc₁ a pc₂ : ℕ} {m m₂ : Mem} (g : Tries i t pc pc₁ m (stand a pc₂ m₂)) where
   attempted : Tried pc m (beginStores i pc (does t) pc₁ m) (outs a pc₂ m₂)
-  attempted = subst (Tried pc m (beginStores i pc (does t) pc₁ m)) (sym e) (tried-begin i pc m (does t) pc₁)
+  attempted = subst (Tried pc m (beginStores i pc (does t) pc₁ m)) (sym (g .is)) (tried-begin i pc m (does t) pc₁)
 
   pub used-grows : m .used ≤ m₂ .used
   used-grows = subst (λ (x : Mem). m .used ≤ x .used) (memOf-outs a pc₂ m₂) (tried-grows attempted)
@@ -70,7 +74,7 @@ module _ (i : List ℕ) (t : Task) (pc pc₁ : ℕ) (m : Mem) (a pc₂ : ℕ) (m
   task-done n z q =
       let ss : List Store = beginStores i pc (does t) pc₁ m in
       let count : n ≡ length ss = omega (arith, counted z) in
-      ap (outcome (done (state pc₂ m₂))) count ∙ ap (λ (o : Out (Unit {0})). settled (state pc m) o ss) (rw z at e)
+      ap (outcome (done (state pc₂ m₂))) count ∙ ap (λ (o : Out (Unit {0})). settled (state pc m) o ss) (rw z at (g .is))
 
   -- refused: put back word by word
   pub task-undone : (m₃ : Mem) → pc < 65536 → Bytes m → (a ≡ 0 → ⊥) → m₃ ≡ undo (m₂ .used - m .used) m₂
@@ -80,7 +84,7 @@ module _ (i : List ℕ) (t : Task) (pc pc₁ : ℕ) (m : Mem) (a pc₂ : ℕ) (m
       let ss : List Store = beginStores i pc (does t) pc₁ m in
       let back : undo (m₂ .used - m .used) m₂ ≡ blanked (m₂ .used - m .used) m = rollback-step l b (rw (ne-eqb a 0 h) at attempted) in
       rw (ne-eqb a 0 h) (ap (λ (x : Mem). outcome (refused a (state pc x)) 0) (q ∙ back)
-      ∙ ap (λ (o : Out (Unit {0})). settled (state pc m) o ss) (rw (ne-eqb a 0 h) at e))
+      ∙ ap (λ (o : Out (Unit {0})). settled (state pc m) o ss) (rw (ne-eqb a 0 h) at (g .is)))
 
 -- bytes are bytes
 pub bytes-of : (p v g j : List ℕ) (u : ℕ) → ((n : ℕ) → getD p n 0 < 256) → ((n : ℕ) → getD v n 0 < 256) → ((n : ℕ) → getD g n 0 < 256) → Bytes (mem p v g j u)
@@ -126,10 +130,10 @@ untouched : (n pc : ℕ) (m : Mem) (o : Out (Unit {0})) (ss : List Store) → (n
 unfolding replies
 untouched n pc m o ss h e = rw (ne-eqb n 0 h, e, sub-self (m .used))
 
-module _ (i : List ℕ) (v a pc pc₁ : ℕ) (m m′ : Mem) (e₀ : valued v (outs a pc₁ m′) ≡ after i (outs 0 pc m) nextByte) where
+module _ {i : List ℕ} {v a pc pc₁ : ℕ} {m m′ : Mem} (g : Goes i (stand 0 pc m) nextByte v (stand a pc₁ m′)) where
   next-is : valued v (outs a pc₁ m′) ≡ perform next i pc m
   unfolding after outs exec
-  next-is = e₀ ∙ then-got (perform next i pc m)
+  next-is = g .is ∙ then-got (perform next i pc m)
 
   pub same-mem : m′ ≡ m
   same-mem = sym (memOf-outs a pc₁ m′) ∙ sym (memOf-valued v (outs a pc₁ m′)) ∙ ap memOf next-is ∙ memOf-next i pc m

@@ -3,11 +3,13 @@ use mathlib.Core.List.{List, []}
 use Prim.Native.Nat.{ℕ, _-_}
 use lib.Dec.{eqb, leb}
 use lib.ListN.{length, take, drop}
+use denote.Ref.{now}
 use Rattle.rules.specs.Machine.{pick, Mem, mem, State, state}
 use Rattle.rules.specs.Journal.{Store, blanked}
 use Rattle.rules.specs.Rules.{Out, got, stopped}
 use Rattle.rules.specs.Opcodes.{Task, does}
 use Rattle.rules.specs.Calls as calls
+use Rattle.machine.specs.Said.{Lent}
 use Rattle.bench.specs.declared.walk.Reply as walk
 use Rattle.bench.specs.declared.runs.Report as runs
 use Rattle.bench.specs.declared.viewer.Memory.{Memory}
@@ -17,6 +19,10 @@ use Rattle.bench.specs.declared.viewer.Memory.the-variants.{Cpu, Vdp}
 
 abbrev pub lent : List ℕ → List ℕ → List ℕ → List ℕ → ℕ → ℕ → State
 lent p v g j pc u = state pc (mem p v g j u)
+
+-- as the contracts have it, of pad, VDP RAM, registers and journal as they are lent
+abbrev pub given : Lent → Lent → Lent → Lent → ℕ → ℕ → State
+given p v g j pc u = lent (now (p .entry)) (now (v .entry)) (now (g .entry)) (now (j .entry)) pc u
 
 -- ---- a step or a step back: a reply of the rules, and the number of byte stores
 
@@ -34,6 +40,9 @@ replies a pc m = pick (eqb a 0) (calls.done (state pc m)) (calls.refused a (stat
 -- beside pad, VDP RAM, registers and journal
 abbrev pub told : List ℕ → List ℕ → List ℕ → List ℕ → walk.Reply → Outcome
 told p v g j r = outcome (replies (r .answer) (r .pc) (mem p v g j (r .used))) (r .stores)
+
+abbrev pub tells : Lent → Lent → Lent → Lent → walk.Reply → Outcome
+tells p v g j r = told (now (p .exit)) (now (v .exit)) (now (g .exit)) (now (j .exit)) r
 
 -- ---- a step
 
@@ -58,6 +67,9 @@ stepping i s = outcome (calls.step i s) (calls.made i s (calls.step i s))
 
 abbrev pub reported : List ℕ → List ℕ → List ℕ → List ℕ → runs.Report → calls.Report
 reported p v g j r = calls.report (r .answer) (r .steps) (r .stores) (state (r .pc) (mem p v g j (r .used)))
+
+abbrev pub reports : Lent → Lent → Lent → Lent → runs.Report → calls.Report
+reports p v g j r = reported (now (p .exit)) (now (v .exit)) (now (g .exit)) (now (j .exit)) r
 
 -- ---- the viewer
 

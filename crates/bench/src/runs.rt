@@ -1,11 +1,12 @@
 // Runs of steps.
 use crate::fits;
 use crate::walk;
+use machine::answers;
 ghost use mathlib.Core.Path.{_≡_};
 ghost use mathlib.Core.Bool.{true};
 ghost use Rattle.rules.specs.Calls;
 ghost use Rattle.rules.specs.Calls.{fits, steps};
-ghost use Rattle.bench.specs.Told.{lent, reported};
+ghost use Rattle.bench.specs.Told.{lent, reports, given};
 
 // What a run leaves: its answer, pc and used words, how many steps were done, and how many bytes these stored.
 pub struct Report {
@@ -28,7 +29,7 @@ fn fit_run(
     n: u32,
 ) -> Report
     requires { ⌜ fits (now image) (lent (now pad) (now vram) (now regs) (now journal) pc used) ≡ true ⌝ }
-    ensures { λ r. ⌜ reported (now (pad .exit)) (now (vram .exit)) (now (regs .exit)) (now (journal .exit)) r ≡ steps n (now (image .entry)) (lent (now (pad .entry)) (now (vram .entry)) (now (regs .entry)) (now (journal .entry)) pc used) ⌝ }
+    ensures { λ r. ⌜ reports pad vram regs journal r ≡ steps n (now (image .entry)) (given pad vram regs journal pc used) ⌝ }
 {
     let mut at = pc;
     let mut top = used;
@@ -70,7 +71,7 @@ pub fn run(
     used: usize,
     n: u32,
 ) -> Report
-    ensures { λ r. ⌜ reported (now (pad .exit)) (now (vram .exit)) (now (regs .exit)) (now (journal .exit)) r ≡ Calls.run n (now (image .entry)) (lent (now (pad .entry)) (now (vram .entry)) (now (regs .entry)) (now (journal .entry)) pc used) ⌝ }
+    ensures { λ r. ⌜ reports pad vram regs journal r ≡ Calls.run n (now (image .entry)) (given pad vram regs journal pc used) ⌝ }
 {
     let fit = fits::all_fit(
         image.len(),
@@ -82,7 +83,7 @@ pub fn run(
     );
     if !fit {
         return Report {
-            answer: 11,
+            answer: answers::WRONG_LENGTH,
             pc,
             used,
             steps: 0,

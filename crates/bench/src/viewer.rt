@@ -1,4 +1,5 @@
 // The viewer: a part of one of the two lent slices, the caller's own bytes.
+use machine::cells;
 ghost use mathlib.Core.Path.{_≡_};
 ghost use Prim.Native.Nat.{_≤_};
 ghost use lib.ListN.{length};
@@ -35,7 +36,7 @@ pub fn view<'a>(pad: &'a [u8], vram: &'a [u8], which: Memory, at: usize, len: us
         return &vram[..0];
     }
     match which {
-        Memory::Cpu => part_of(pad, 0xE0, at, len),
-        Memory::Vdp => part_of(vram, 16384, at, len),
+        Memory::Cpu => part_of(pad, cells::PAD_REACH, at, len),
+        Memory::Vdp => part_of(vram, cells::VDP_REACH, at, len),
     }
 }

@@ -1,5 +1,6 @@
 // Steps and step-backs.
 use crate::fits;
+use machine::answers;
 use machine::state::Now;
 use opcode::class::Class;
 use opcode::class::Task;
@@ -8,7 +9,8 @@ ghost use Prim.Native.Nat.{_≤_};
 ghost use lib.ListN.{length};
 ghost use Rattle.rules.specs.Calls.{fitBack, stepBack};
 ghost use Rattle.opcode.specs.Classes.{taskOf};
-ghost use Rattle.bench.specs.Told.{lent, told, outcome, beginning, settling, stepping};
+ghost use Rattle.machine.specs.Said.{IsPad, IsVram, IsRegs};
+ghost use Rattle.bench.specs.Told.{tells, outcome, beginning, settling, stepping, given};
 
 // What a call leaves: its answer, pc and used words, and how many bytes it stored.
 pub struct Reply {
@@ -31,8 +33,8 @@ fn do_task(
     pc: u16,
     task: Task,
 ) -> Reply
-    requires { ⌜ (length (now pad) ≡ 256) × (length (now vram) ≡ 16384) × (length (now regs) ≡ 8) × (m .used ≤ length (now journal)) × (m .answer ≡ 0) ⌝ }
-    ensures { λ r. ⌜ told (now (pad .exit)) (now (vram .exit)) (now (regs .exit)) (now (journal .exit)) r ≡ beginning (now (image .entry)) (taskOf task) (m .pc) (lent (now (pad .entry)) (now (vram .entry)) (now (regs .entry)) (now (journal .entry)) pc (m .used)) ⌝ }
+    requires { ⌜ IsPad pad × IsVram vram × IsRegs regs × (m .used ≤ length (now journal)) × (m .answer ≡ 0) ⌝ }
+    ensures { λ r. ⌜ tells pad vram regs journal r ≡ beginning (now (image .entry)) (taskOf task) (m .pc) (given pad vram regs journal pc (m .used)) ⌝ }
 {
     let used = m.used;
     let marked = machine::journal::take_mark(journal, m, pc);
@@ -67,8 +69,8 @@ pub(crate) fn fit_step(
     pc: u16,
     used: usize,
 ) -> Reply
-    requires { ⌜ (length (now pad) ≡ 256) × (length (now vram) ≡ 16384) × (length (now regs) ≡ 8) × (used ≤ length (now journal)) ⌝ }
-    ensures { λ r. ⌜ told (now (pad .exit)) (now (vram .exit)) (now (regs .exit)) (now (journal .exit)) r ≡ settling (now (image .entry)) (lent (now (pad .entry)) (now (vram .entry)) (now (regs .entry)) (now (journal .entry)) pc used) ⌝ }
+    requires { ⌜ IsPad pad × IsVram vram × IsRegs regs × (used ≤ length (now journal)) ⌝ }
+    ensures { λ r. ⌜ tells pad vram regs journal r ≡ settling (now (image .entry)) (given pad vram regs journal pc used) ⌝ }
 {
     let start = Now {
         pc,
@@ -107,7 +109,7 @@ pub fn step(
     pc: u16,
     used: usize,
 ) -> Reply
-    ensures { λ r. ⌜ told (now (pad .exit)) (now (vram .exit)) (now (regs .exit)) (now (journal .exit)) r ≡ stepping (now (image .entry)) (lent (now (pad .entry)) (now (vram .entry)) (now (regs .entry)) (now (journal .entry)) pc used) ⌝ }
+    ensures { λ r. ⌜ tells pad vram regs journal r ≡ stepping (now (image .entry)) (given pad vram regs journal pc used) ⌝ }
 {
     let fit = fits::all_fit(
         image.len(),
@@ -119,7 +121,7 @@ pub fn step(
     );
     if !fit {
         return Reply {
-            answer: 11,
+            answer: answers::WRONG_LENGTH,
             pc,
             used,
             stores: 0,
@@ -139,14 +141,14 @@ fn fit_back(
     pc: u16,
     used: usize,
 ) -> Reply
-    requires { ⌜ (length (now pad) ≡ 256) × (length (now vram) ≡ 16384) × (length (now regs) ≡ 8) × (used ≤ length (now journal)) ⌝ }
-    ensures { λ r. ⌜ told (now (pad .exit)) (now (vram .exit)) (now (regs .exit)) (now (journal .exit)) r ≡ outcome (fitBack (lent (now (pad .entry)) (now (vram .entry)) (now (regs .entry)) (now (journal .entry)) pc used)) 0 ⌝ }
+    requires { ⌜ IsPad pad × IsVram vram × IsRegs regs × (used ≤ length (now journal)) ⌝ }
+    ensures { λ r. ⌜ tells pad vram regs journal r ≡ outcome (fitBack (given pad vram regs journal pc used)) 0 ⌝ }
 {
     let found = machine::journal::find(journal, used);
     let words = found.words;
     if words == 0 {
         return Reply {
-            answer: 12,
+            answer: answers::NO_RECORD,
             pc,
             used,
             stores: 0,
@@ -169,12 +171,12 @@ pub fn step_back(
     pc: u16,
     used: usize,
 ) -> Reply
-    ensures { λ r. ⌜ told (now (pad .exit)) (now (vram .exit)) (now (regs .exit)) (now (journal .exit)) r ≡ outcome (stepBack (lent (now (pad .entry)) (now (vram .entry)) (now (regs .entry)) (now (journal .entry)) pc used)) 0 ⌝ }
+    ensures { λ r. ⌜ tells pad vram regs journal r ≡ outcome (stepBack (given pad vram regs journal pc used)) 0 ⌝ }
 {
     let fit = fits::parts_fit(pad.len(), vram.len(), regs.len(), journal.len(), used);
     if !fit {
         return Reply {
-            answer: 11,
+            answer: answers::WRONG_LENGTH,
             pc,
             used,
             stores: 0,

@@ -1,25 +1,19 @@
 // One byte of a MOVE, k further on from each end.
 use crate::ends::Origin;
 use crate::ends::Target;
+use machine::cells;
 use machine::state::Now;
-ghost use mathlib.Core.Path.{_≡_};
-ghost use mathlib.Core.List.{List};
-ghost use Prim.Native.Nat.{ℕ};
-ghost use lib.ListN.{length};
-ghost use Rattle.rules.specs.Rules.{after, valued};
 ghost use Rattle.rules.specs.Machine.{cpu, register, vdp};
 ghost use Rattle.rules.specs.Operands.{cell, past};
 ghost use Rattle.rules.specs.Instructions.{sourceByte, registerOne, moveByte, fromGrom, fromCell};
 ghost use Rattle.rules.specs.Instructions;
-ghost use Rattle.machine.specs.Said.{out};
+ghost use Rattle.machine.specs.Said.{_&_, Does, Gives, Image, IsPad, IsRegs, IsVram, Journal, Pad, Regs, Vram};
 ghost use Rattle.block.specs.Ends.{targetOf, originOf};
-
-const REGISTER_COPY: usize = 0xD4;
 
 // A GROM address counts in 16 bits.
 fn source_byte(image: &[u8], pad: &[u8], vram: &[u8], m: Now, from: Origin, k: u16) -> Now
-    requires { ⌜ (length (now pad) ≡ 256) × (length (now vram) ≡ 16384) ⌝ }
-    ensures { λ r. ⌜ ((g j : List ℕ) → valued (r .byte) (out (now (pad .entry)) (now (vram .entry)) g j r) ≡ after (now (image .entry)) (out (now (pad .entry)) (now (vram .entry)) g j m) (sourceByte (originOf from) k)) ⌝ }
+    requires { ⌜ IsPad pad × IsVram vram ⌝ }
+    ensures { λ r. ⌜ Gives (r .byte) (sourceByte (originOf from) k) (Image image & Pad pad & Vram vram) m r ⌝ }
 {
     match from {
         Origin::Grom(a) => machine::grom::grom_byte(image, m, number::addresses::plus(a, k)),
@@ -36,11 +30,11 @@ fn source_byte(image: &[u8], pad: &[u8], vram: &[u8], m: Now, from: Origin, k: u
 
 // Register 1's byte, with the bit of 16 KiB set, goes to its copy first.
 fn register_one(pad: &mut [u8], regs: &mut [u8], journal: &mut [u32], m: Now, b: u8) -> Now
-    requires { ⌜ (length (now pad) ≡ 256) × (length (now regs) ≡ 8) ⌝ }
-    ensures { λ r. ⌜ ((i v : List ℕ) → out (now (pad .exit)) v (now (regs .exit)) (now (journal .exit)) r ≡ after i (out (now (pad .entry)) v (now (regs .entry)) (now (journal .entry)) m) (registerOne b)) ⌝ }
+    requires { ⌜ IsPad pad × IsRegs regs ⌝ }
+    ensures { λ r. ⌜ Does (registerOne b) (Pad pad & Regs regs & Journal journal) m r ⌝ }
 {
     let set = 0x80 + b % 0x80;
-    let copied = machine::pad::poke_pad(pad, journal, m, REGISTER_COPY, set);
+    let copied = machine::pad::poke_pad(pad, journal, m, cells::REGISTER_COPY, set);
     machine::registers::poke_reg(regs, journal, copied, 1, set)
 }
 
@@ -52,8 +46,8 @@ fn to_register(
     at: usize,
     b: u8,
 ) -> Now
-    requires { ⌜ (length (now pad) ≡ 256) × (length (now regs) ≡ 8) ⌝ }
-    ensures { λ r. ⌜ ((i v : List ℕ) → out (now (pad .exit)) v (now (regs .exit)) (now (journal .exit)) r ≡ after i (out (now (pad .entry)) v (now (regs .entry)) (now (journal .entry)) m) (Instructions.deliver (cell register at) b)) ⌝ }
+    requires { ⌜ IsPad pad × IsRegs regs ⌝ }
+    ensures { λ r. ⌜ Does (Instructions.deliver (cell register at) b) (Pad pad & Regs regs & Journal journal) m r ⌝ }
 {
     if at == 1 {
         return register_one(pad, regs, journal, m, b);
@@ -71,8 +65,8 @@ fn deliver(
     k: u16,
     b: u8,
 ) -> Now
-    requires { ⌜ (length (now pad) ≡ 256) × (length (now vram) ≡ 16384) × (length (now regs) ≡ 8) ⌝ }
-    ensures { λ r. ⌜ ((i : List ℕ) → out (now (pad .exit)) (now (vram .exit)) (now (regs .exit)) (now (journal .exit)) r ≡ after i (out (now (pad .entry)) (now (vram .entry)) (now (regs .entry)) (now (journal .entry)) m) (Instructions.deliver (past k (targetOf to)) b)) ⌝ }
+    requires { ⌜ IsPad pad × IsVram vram × IsRegs regs ⌝ }
+    ensures { λ r. ⌜ Does (Instructions.deliver (past k (targetOf to)) b) (Pad pad & Vram vram & Regs regs & Journal journal) m r ⌝ }
 {
     match to {
         Target::Pad(a) => {
@@ -101,8 +95,8 @@ pub fn move_byte(
     to: Target,
     k: u16,
 ) -> Now
-    requires { ⌜ (length (now pad) ≡ 256) × (length (now vram) ≡ 16384) × (length (now regs) ≡ 8) ⌝ }
-    ensures { λ r. ⌜ out (now (pad .exit)) (now (vram .exit)) (now (regs .exit)) (now (journal .exit)) r ≡ after (now (image .entry)) (out (now (pad .entry)) (now (vram .entry)) (now (regs .entry)) (now (journal .entry)) m) (moveByte (originOf from) (targetOf to) k) ⌝ }
+    requires { ⌜ IsPad pad × IsVram vram × IsRegs regs ⌝ }
+    ensures { λ r. ⌜ Does (moveByte (originOf from) (targetOf to) k) (Image image & Pad pad & Vram vram & Regs regs & Journal journal) m r ⌝ }
 {
     let b = source_byte(image, pad, vram, m, from, k);
     deliver(pad, vram, regs, journal, b, to, k, b.byte)
@@ -118,8 +112,8 @@ pub fn grom_to_vdp(
     t: u16,
     k: u16,
 ) -> Now
-    requires { ⌜ length (now vram) ≡ 16384 ⌝ }
-    ensures { λ r. ⌜ ((p g : List ℕ) → out p (now (vram .exit)) g (now (journal .exit)) r ≡ after (now (image .entry)) (out p (now (vram .entry)) g (now (journal .entry)) m) (moveByte (fromGrom a) (cell vdp t) k)) ⌝ }
+    requires { ⌜ IsVram vram ⌝ }
+    ensures { λ r. ⌜ Does (moveByte (fromGrom a) (cell vdp t) k) (Image image & Vram vram & Journal journal) m r ⌝ }
 {
     let b = machine::grom::grom_byte(image, m, number::addresses::plus(a, k));
     let at = t as usize + k as usize;
@@ -136,8 +130,8 @@ pub fn pad_to_vdp(
     t: u16,
     k: u16,
 ) -> Now
-    requires { ⌜ (length (now pad) ≡ 256) × (length (now vram) ≡ 16384) ⌝ }
-    ensures { λ r. ⌜ ((i g : List ℕ) → out (now (pad .entry)) (now (vram .exit)) g (now (journal .exit)) r ≡ after i (out (now (pad .entry)) (now (vram .entry)) g (now (journal .entry)) m) (moveByte (fromCell (cell cpu a)) (cell vdp t) k)) ⌝ }
+    requires { ⌜ IsPad pad × IsVram vram ⌝ }
+    ensures { λ r. ⌜ Does (moveByte (fromCell (cell cpu a)) (cell vdp t) k) (Pad pad & Vram vram & Journal journal) m r ⌝ }
 {
     let from = a as usize + k as usize;
     let b = machine::pad::peek_pad(pad, m, from);
@@ -147,8 +141,8 @@ pub fn pad_to_vdp(
 
 // Within VDP RAM.
 pub fn vdp_to_vdp(vram: &mut [u8], journal: &mut [u32], m: Now, a: u16, t: u16, k: u16) -> Now
-    requires { ⌜ length (now vram) ≡ 16384 ⌝ }
-    ensures { λ r. ⌜ ((i p g : List ℕ) → out p (now (vram .exit)) g (now (journal .exit)) r ≡ after i (out p (now (vram .entry)) g (now (journal .entry)) m) (moveByte (fromCell (cell vdp a)) (cell vdp t) k)) ⌝ }
+    requires { ⌜ IsVram vram ⌝ }
+    ensures { λ r. ⌜ Does (moveByte (fromCell (cell vdp a)) (cell vdp t) k) (Vram vram & Journal journal) m r ⌝ }
 {
     let from = a as usize + k as usize;
     let b = machine::vdp::peek_vdp(vram, m, from);

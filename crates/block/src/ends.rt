@@ -2,14 +2,10 @@
 use machine::state::Now;
 use operand::places::Place;
 ghost use mathlib.Core.Path.{_≡_};
-ghost use mathlib.Core.List.{List};
-ghost use Prim.Native.Nat.{ℕ};
-ghost use lib.ListN.{length};
-ghost use Rattle.rules.specs.Rules.{after, valued};
 ghost use Rattle.rules.specs.Operands.{place};
 ghost use Rattle.rules.specs.Instructions;
 ghost use Rattle.rules.specs.Instructions.{registerCell, moveTarget, gromSource, cellSource, moveSource};
-ghost use Rattle.machine.specs.Said.{out};
+ghost use Rattle.machine.specs.Said.{_&_, Gives, Image, IsPad, Journal, Pad};
 ghost use Rattle.operand.specs.Places.{cellOf};
 ghost use Rattle.block.specs.Ends.{targetOf, originOf};
 
@@ -55,7 +51,7 @@ fn origin_at(place: Place) -> Origin
 }
 
 fn register_cell(image: &[u8], m: Now) -> Aimed
-    ensures { λ r. ⌜ ((p v g j : List ℕ) → valued (targetOf (r .target)) (out p v g j (r .now)) ≡ after (now (image .entry)) (out p v g j m) registerCell) ⌝ }
+    ensures { λ r. ⌜ Gives (targetOf (r .target)) registerCell (Image image) m (r .now) ⌝ }
 {
     let n = machine::grom::next_byte(image, m);
     Aimed {
@@ -65,8 +61,8 @@ fn register_cell(image: &[u8], m: Now) -> Aimed
 }
 
 fn place_target(image: &[u8], pad: &mut [u8], journal: &mut [u32], m: Now) -> Aimed
-    requires { ⌜ length (now pad) ≡ 256 ⌝ }
-    ensures { λ r. ⌜ ((v g : List ℕ) → valued (targetOf (r .target)) (out (now (pad .exit)) v g (now (journal .exit)) (r .now)) ≡ after (now (image .entry)) (out (now (pad .entry)) v g (now (journal .entry)) m) place) ⌝ }
+    requires { ⌜ IsPad pad ⌝ }
+    ensures { λ r. ⌜ Gives (targetOf (r .target)) place (Image image & Pad pad & Journal journal) m (r .now) ⌝ }
 {
     let o = operand::decode::operand(image, pad, journal, m, 1);
     Aimed {
@@ -83,8 +79,8 @@ pub fn move_target(
     m: Now,
     register: bool,
 ) -> Aimed
-    requires { ⌜ length (now pad) ≡ 256 ⌝ }
-    ensures { λ r. ⌜ ((v g : List ℕ) → valued (targetOf (r .target)) (out (now (pad .exit)) v g (now (journal .exit)) (r .now)) ≡ after (now (image .entry)) (out (now (pad .entry)) v g (now (journal .entry)) m) (moveTarget register)) ⌝ }
+    requires { ⌜ IsPad pad ⌝ }
+    ensures { λ r. ⌜ Gives (targetOf (r .target)) (moveTarget register) (Image image & Pad pad & Journal journal) m (r .now) ⌝ }
 {
     if register {
         return register_cell(image, m);
@@ -94,8 +90,8 @@ pub fn move_target(
 
 // A two-byte address, with an index or not.
 fn grom_source(image: &[u8], pad: &[u8], m: Now, x: bool) -> Drawn
-    requires { ⌜ length (now pad) ≡ 256 ⌝ }
-    ensures { λ r. ⌜ ((v g j : List ℕ) → valued (originOf (r .origin)) (out (now (pad .entry)) v g j (r .now)) ≡ after (now (image .entry)) (out (now (pad .entry)) v g j m) (gromSource x)) ⌝ }
+    requires { ⌜ IsPad pad ⌝ }
+    ensures { λ r. ⌜ Gives (originOf (r .origin)) (gromSource x) (Image image & Pad pad) m (r .now) ⌝ }
 {
     let a = machine::grom::next_word(image, m);
     let e = operand::decode::indexed(image, pad, a, x, a.word);
@@ -106,8 +102,8 @@ fn grom_source(image: &[u8], pad: &[u8], m: Now, x: bool) -> Drawn
 }
 
 fn cell_source(image: &[u8], pad: &mut [u8], journal: &mut [u32], m: Now) -> Drawn
-    requires { ⌜ length (now pad) ≡ 256 ⌝ }
-    ensures { λ r. ⌜ ((v g : List ℕ) → valued (originOf (r .origin)) (out (now (pad .exit)) v g (now (journal .exit)) (r .now)) ≡ after (now (image .entry)) (out (now (pad .entry)) v g (now (journal .entry)) m) cellSource) ⌝ }
+    requires { ⌜ IsPad pad ⌝ }
+    ensures { λ r. ⌜ Gives (originOf (r .origin)) cellSource (Image image & Pad pad & Journal journal) m (r .now) ⌝ }
 {
     let o = operand::decode::operand(image, pad, journal, m, 1);
     Drawn {
@@ -125,8 +121,8 @@ pub fn move_source(
     operand: bool,
     x: bool,
 ) -> Drawn
-    requires { ⌜ length (now pad) ≡ 256 ⌝ }
-    ensures { λ r. ⌜ ((v g : List ℕ) → valued (originOf (r .origin)) (out (now (pad .exit)) v g (now (journal .exit)) (r .now)) ≡ after (now (image .entry)) (out (now (pad .entry)) v g (now (journal .entry)) m) (moveSource operand x)) ⌝ }
+    requires { ⌜ IsPad pad ⌝ }
+    ensures { λ r. ⌜ Gives (originOf (r .origin)) (moveSource operand x) (Image image & Pad pad & Journal journal) m (r .now) ⌝ }
 {
     if operand {
         return cell_source(image, pad, journal, m);

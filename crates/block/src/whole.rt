@@ -5,14 +5,10 @@ use crate::ends::Origin;
 use crate::ends::Target;
 use machine::state::Now;
 ghost use mathlib.Core.Path.{_≡_};
-ghost use mathlib.Core.List.{List};
-ghost use Prim.Native.Nat.{ℕ};
-ghost use lib.ListN.{length};
-ghost use Rattle.rules.specs.Rules.{after};
 ghost use Rattle.rules.specs.Machine.{cpu, vdp};
 ghost use Rattle.rules.specs.Operands.{cell};
 ghost use Rattle.rules.specs.Instructions.{moveCount, moveBytes, moveRule, fromGrom, fromCell};
-ghost use Rattle.machine.specs.Said.{out};
+ghost use Rattle.machine.specs.Said.{_&_, Does, Image, IsPad, IsRegs, IsVram, Journal, Pad, Regs, Vram};
 ghost use Rattle.block.specs.Ends.{targetOf, originOf};
 
 // How many bytes a length moves: from 1 to >8000 as many, any other one.
@@ -38,8 +34,8 @@ fn grom_bytes(
     a: u16,
     t: u16,
 ) -> Now
-    requires { ⌜ length (now vram) ≡ 16384 ⌝ }
-    ensures { λ r. ⌜ ((p g : List ℕ) → out p (now (vram .exit)) g (now (journal .exit)) r ≡ after (now (image .entry)) (out p (now (vram .entry)) g (now (journal .entry)) m) (moveBytes n 0 (fromGrom a) (cell vdp t))) ⌝ }
+    requires { ⌜ IsVram vram ⌝ }
+    ensures { λ r. ⌜ Does (moveBytes n 0 (fromGrom a) (cell vdp t)) (Image image & Vram vram & Journal journal) m r ⌝ }
 {
     let mut x = m;
     let mut k: u16 = 0;
@@ -62,8 +58,8 @@ fn pad_bytes(
     a: u16,
     t: u16,
 ) -> Now
-    requires { ⌜ (length (now pad) ≡ 256) × (length (now vram) ≡ 16384) ⌝ }
-    ensures { λ r. ⌜ ((i g : List ℕ) → out (now (pad .entry)) (now (vram .exit)) g (now (journal .exit)) r ≡ after i (out (now (pad .entry)) (now (vram .entry)) g (now (journal .entry)) m) (moveBytes n 0 (fromCell (cell cpu a)) (cell vdp t))) ⌝ }
+    requires { ⌜ IsPad pad × IsVram vram ⌝ }
+    ensures { λ r. ⌜ Does (moveBytes n 0 (fromCell (cell cpu a)) (cell vdp t)) (Pad pad & Vram vram & Journal journal) m r ⌝ }
 {
     let mut x = m;
     let mut k: u16 = 0;
@@ -78,8 +74,8 @@ fn pad_bytes(
 }
 
 fn vdp_bytes(vram: &mut [u8], journal: &mut [u32], m: Now, n: u16, a: u16, t: u16) -> Now
-    requires { ⌜ length (now vram) ≡ 16384 ⌝ }
-    ensures { λ r. ⌜ ((i p g : List ℕ) → out p (now (vram .exit)) g (now (journal .exit)) r ≡ after i (out p (now (vram .entry)) g (now (journal .entry)) m) (moveBytes n 0 (fromCell (cell vdp a)) (cell vdp t))) ⌝ }
+    requires { ⌜ IsVram vram ⌝ }
+    ensures { λ r. ⌜ Does (moveBytes n 0 (fromCell (cell vdp a)) (cell vdp t)) (Vram vram & Journal journal) m r ⌝ }
 {
     let mut x = m;
     let mut k: u16 = 0;
@@ -105,8 +101,8 @@ fn any_bytes(
     from: Origin,
     to: Target,
 ) -> Now
-    requires { ⌜ (length (now pad) ≡ 256) × (length (now vram) ≡ 16384) × (length (now regs) ≡ 8) ⌝ }
-    ensures { λ r. ⌜ out (now (pad .exit)) (now (vram .exit)) (now (regs .exit)) (now (journal .exit)) r ≡ after (now (image .entry)) (out (now (pad .entry)) (now (vram .entry)) (now (regs .entry)) (now (journal .entry)) m) (moveBytes n 0 (originOf from) (targetOf to)) ⌝ }
+    requires { ⌜ IsPad pad × IsVram vram × IsRegs regs ⌝ }
+    ensures { λ r. ⌜ Does (moveBytes n 0 (originOf from) (targetOf to)) (Image image & Pad pad & Vram vram & Regs regs & Journal journal) m r ⌝ }
 {
     let mut x = m;
     let mut k: u16 = 0;
@@ -132,8 +128,8 @@ fn move_bytes(
     from: Origin,
     to: Target,
 ) -> Now
-    requires { ⌜ (length (now pad) ≡ 256) × (length (now vram) ≡ 16384) × (length (now regs) ≡ 8) ⌝ }
-    ensures { λ r. ⌜ out (now (pad .exit)) (now (vram .exit)) (now (regs .exit)) (now (journal .exit)) r ≡ after (now (image .entry)) (out (now (pad .entry)) (now (vram .entry)) (now (regs .entry)) (now (journal .entry)) m) (moveBytes n 0 (originOf from) (targetOf to)) ⌝ }
+    requires { ⌜ IsPad pad × IsVram vram × IsRegs regs ⌝ }
+    ensures { λ r. ⌜ Does (moveBytes n 0 (originOf from) (targetOf to)) (Image image & Pad pad & Vram vram & Regs regs & Journal journal) m r ⌝ }
 {
     match to {
         Target::Video(t) => match from {
@@ -155,8 +151,8 @@ pub fn move_block(
     m: Now,
     bits: u8,
 ) -> Now
-    requires { ⌜ (length (now pad) ≡ 256) × (length (now vram) ≡ 16384) × (length (now regs) ≡ 8) ⌝ }
-    ensures { λ r. ⌜ out (now (pad .exit)) (now (vram .exit)) (now (regs .exit)) (now (journal .exit)) r ≡ after (now (image .entry)) (out (now (pad .entry)) (now (vram .entry)) (now (regs .entry)) (now (journal .entry)) m) (moveRule bits) ⌝ }
+    requires { ⌜ IsPad pad × IsVram vram × IsRegs regs ⌝ }
+    ensures { λ r. ⌜ Does (moveRule bits) (Image image & Pad pad & Vram vram & Regs regs & Journal journal) m r ⌝ }
 {
     let imm = number::bits::bit(0, bits);
     let x = number::bits::bit(1, bits);
@@ -165,7 +161,7 @@ pub fn move_block(
     let l = operand::values::source(image, pad, vram, journal, m, imm, true);
     let to = ends::move_target(image, pad, journal, l, register);
     let from = ends::move_source(image, pad, journal, to.now, placed, x);
-    let pushed = flow::stacks::push_pc(pad, journal, from.now);
+    let pushed = operand::stacks::push_pc(pad, journal, from.now);
     let origin = from.origin;
     let target = to.target;
     let count = move_count(l.word);
@@ -180,5 +176,5 @@ pub fn move_block(
         origin,
         target,
     );
-    flow::stacks::pop_pc(pad, journal, moved)
+    operand::stacks::pop_pc(pad, journal, moved)
 }

@@ -1,21 +1,16 @@
 // PUSH, CASE and FETCH: those of one operand that go to a stack or to pc.
-use crate::stacks;
-use crate::status;
+use machine::answers;
+use machine::cells;
 use machine::state::Now;
+use operand::stacks;
+use operand::status;
+use operand::targets::read_target;
 ghost use mathlib.Core.Path.{_≡_};
 ghost use mathlib.Core.Bool.{false};
-ghost use mathlib.Core.List.{List};
-ghost use Prim.Native.Nat.{ℕ};
-ghost use lib.ListN.{length};
 ghost use Rattle.rules.specs.Machine.{pick};
 ghost use Rattle.rules.specs.Arithmetic.{extended};
-ghost use Rattle.rules.specs.Rules.{after};
 ghost use Rattle.rules.specs.Instructions.{pushRule, caseRule, fetchRule};
-ghost use Rattle.machine.specs.Said.{out};
-
-const DATA_POINTER: usize = 0x72;
-
-const OFF_STACK: u8 = 7;
+ghost use Rattle.machine.specs.Said.{_&_, Does, Image, IsPad, IsVram, Journal, Pad, Vram};
 
 // The low byte onto the data stack.
 pub fn push(
@@ -26,15 +21,15 @@ pub fn push(
     m: Now,
     wide: bool,
 ) -> Now
-    requires { ⌜ (length (now pad) ≡ 256) × (length (now vram) ≡ 16384) ⌝ }
-    ensures { λ r. ⌜ ((g : List ℕ) → out (now (pad .exit)) (now (vram .entry)) g (now (journal .exit)) r ≡ after (now (image .entry)) (out (now (pad .entry)) (now (vram .entry)) g (now (journal .entry)) m) (pushRule wide)) ⌝ }
+    requires { ⌜ IsPad pad × IsVram vram ⌝ }
+    ensures { λ r. ⌜ Does (pushRule wide) (Image image & Pad pad & Vram vram & Journal journal) m r ⌝ }
 {
     let v = operand::values::operand_value(image, pad, vram, journal, m, wide);
-    let p = machine::pad::peek_pad(pad, v, DATA_POINTER);
+    let p = machine::pad::peek_pad(pad, v, cells::DATA_POINTER);
     let up = p.byte as u16 + 1;
-    let sound = machine::state::need(p, operand::decode::on_data_stack(up), OFF_STACK);
+    let sound = machine::state::need(p, operand::decode::on_data_stack(up), answers::OFF_STACK);
     let b = (up % 256) as u8;
-    let raised = machine::pad::poke_pad(pad, journal, sound, DATA_POINTER, b);
+    let raised = machine::pad::poke_pad(pad, journal, sound, cells::DATA_POINTER, b);
     let at = up as usize;
     let low = number::words::low_of(v.word);
     machine::pad::poke_pad(pad, journal, raised, at, low)
@@ -49,8 +44,8 @@ pub fn case(
     m: Now,
     wide: bool,
 ) -> Now
-    requires { ⌜ (length (now pad) ≡ 256) × (length (now vram) ≡ 16384) ⌝ }
-    ensures { λ r. ⌜ ((g : List ℕ) → out (now (pad .exit)) (now (vram .entry)) g (now (journal .exit)) r ≡ after (now (image .entry)) (out (now (pad .entry)) (now (vram .entry)) g (now (journal .entry)) m) (caseRule wide)) ⌝ }
+    requires { ⌜ IsPad pad × IsVram vram ⌝ }
+    ensures { λ r. ⌜ Does (caseRule wide) (Image image & Pad pad & Vram vram & Journal journal) m r ⌝ }
 {
     let v = operand::values::operand_value(image, pad, vram, journal, m, wide);
     let signed = number::sums::extended(wide, v.word);
@@ -79,15 +74,15 @@ pub fn fetch(
     m: Now,
     wide: bool,
 ) -> Now
-    requires { ⌜ (length (now pad) ≡ 256) × (length (now vram) ≡ 16384) ⌝ }
-    ensures { λ r. ⌜ ((g : List ℕ) → out (now (pad .exit)) (now (vram .exit)) g (now (journal .exit)) r ≡ after (now (image .entry)) (out (now (pad .entry)) (now (vram .entry)) g (now (journal .entry)) m) (fetchRule wide)) ⌝ }
+    requires { ⌜ IsPad pad × IsVram vram ⌝ }
+    ensures { λ r. ⌜ Does (fetchRule wide) (Image image & Pad pad & Vram vram & Journal journal) m r ⌝ }
 {
-    let o = operand::decode::operand(image, pad, journal, m, operand::values::byte_count(wide));
-    let place = operand::places::place_of(o);
-    let read = operand::values::value(pad, vram, journal, operand::places::now_of(o), wide, place);
-    let old = machine::pad::peek_pad(pad, read, stacks::POINTER);
+    let target = read_target(image, pad, vram, journal, m, wide);
+    let read = target.now;
+    let place = target.place;
+    let old = machine::pad::peek_pad(pad, read, cells::SUB_POINTER);
     let pushed = stacks::push_pc(pad, journal, old);
-    let back = machine::pad::poke_pad(pad, journal, pushed, stacks::POINTER, old.byte);
+    let back = machine::pad::poke_pad(pad, journal, pushed, cells::SUB_POINTER, old.byte);
     let at = old.byte as usize;
     let top = machine::pad::peek_pad_word(pad, back, at);
     let b = machine::grom::grom_byte(image, top, top.word);

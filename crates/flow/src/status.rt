@@ -1,16 +1,11 @@
-// The condition bit of the status byte, at >7C: set as given, or by one of the four bit tests.
+// The four bit tests: each sets the condition bit of the status byte.
+use machine::cells;
 use machine::state::Now;
 ghost use mathlib.Core.Path.{_≡_};
-ghost use mathlib.Core.List.{List};
-ghost use Prim.Native.Nat.{ℕ};
-ghost use lib.ListN.{length};
 ghost use Rattle.rules.specs.Arithmetic;
-ghost use Rattle.rules.specs.Rules.{after};
-ghost use Rattle.rules.specs.Instructions.{setCondition, testRule};
-ghost use Rattle.machine.specs.Said.{out};
+ghost use Rattle.rules.specs.Instructions.{testRule};
+ghost use Rattle.machine.specs.Said.{_&_, Does, IsPad, Journal, Pad};
 ghost use Rattle.flow.specs.Tests.{testOf};
-
-pub const STATUS: usize = 0x7C;
 
 // H, GT, CARRY, OVF: by the status bit that they test.
 pub enum Test {
@@ -18,15 +13,6 @@ pub enum Test {
     Greater,
     Carry,
     Overflow,
-}
-
-pub fn set_condition(pad: &mut [u8], journal: &mut [u32], m: Now, c: bool) -> Now
-    requires { ⌜ length (now pad) ≡ 256 ⌝ }
-    ensures { λ r. ⌜ ((i v g : List ℕ) → out (now (pad .exit)) v g (now (journal .exit)) r ≡ after i (out (now (pad .entry)) v g (now (journal .entry)) m) (setCondition c)) ⌝ }
-{
-    let s = machine::pad::peek_pad(pad, m, STATUS);
-    let b = number::sums::with_condition(c, s.byte);
-    machine::pad::poke_pad(pad, journal, s, STATUS, b)
 }
 
 // The bit that a test asks for.
@@ -42,10 +28,10 @@ fn tested(t: Test, s: u8) -> bool
 }
 
 pub fn test_status(pad: &mut [u8], journal: &mut [u32], m: Now, t: Test) -> Now
-    requires { ⌜ length (now pad) ≡ 256 ⌝ }
-    ensures { λ r. ⌜ ((i v g : List ℕ) → out (now (pad .exit)) v g (now (journal .exit)) r ≡ after i (out (now (pad .entry)) v g (now (journal .entry)) m) (testRule (testOf t))) ⌝ }
+    requires { ⌜ IsPad pad ⌝ }
+    ensures { λ r. ⌜ Does (testRule (testOf t)) (Pad pad & Journal journal) m r ⌝ }
 {
-    let s = machine::pad::peek_pad(pad, m, STATUS);
+    let s = machine::pad::peek_pad(pad, m, cells::STATUS);
     let b = number::sums::with_condition(tested(t, s.byte), s.byte);
-    machine::pad::poke_pad(pad, journal, s, STATUS, b)
+    machine::pad::poke_pad(pad, journal, s, cells::STATUS, b)
 }

@@ -1,29 +1,19 @@
--- What the proofs share: the turns of the three loops of text, a code by its range, and the turns of the loop of codes.
-use mathlib.Core.Path.{_≡_, refl, _∙_, ap, sym}
+-- What the proofs share: the three loops of text, a code by its range, and the turns of the loop of codes.
+use mathlib.Core.Path.{_≡_, refl, ap}
 use mathlib.Core.Bool.{Bool, true, false}
-use mathlib.Core.List.{List}
-use Prim.Native.Nat.{ℕ, zero, suc, _+_, _-_, _*_, _≤_, _<_}
-use native.Mathlib.Numerals.{add-one}
+use Prim.Native.Nat.{ℕ, zero, suc, _-_, _*_, _≤_, _<_}
 use native.Mathlib.Omega.{arith}
 use lib.Dec.{ltb}
 use borrow.Author.Tests.{lt-ltb, le-ltb}
-use Rattle.rules.specs.Machine.{pick, Mem}
+use Rattle.rules.specs.Machine.{pick}
 use Rattle.rules.specs.Answers.{tooLong}
-use Rattle.rules.specs.Rules.{Rule, give, _>>=_, Out, after, valued, need}
-use Rattle.rules.specs.Format.{show, skip, showNext, text, showTimes, showCell, padText, Turn, over, on, goOn, count, codeRule, code, codes}
-use Rattle.rules.proofs.Laws.{after-then, seq, bind, idle, via}
-use Rattle.machine.specs.Said.{outs}
-use Rattle.machine.proofs.Acts.{still}
+use Rattle.rules.specs.Rules.{give, _>>=_, need}
+use Rattle.rules.specs.Format.{show, skip, showNext, text, showTimes, showCell, padText, on, goOn, count, codeRule, code, codes}
+use Rattle.rules.proofs.Loops.{Repeats}
 use Rattle.format.specs.Turns.{turnOf, textCode, highCode}
 
--- ---- a loop that counts down
+-- ---- text, a character repeated (neither has a number that goes up) and text from the pad
 
--- f, of how many turns are left and of a number that goes up with each, is r as often
-pub record Repeats (f : ℕ → ℕ → Rule (Unit {0})) (r : ℕ → Rule (Unit {0})) : Type 0 where
-  pub none : (a : ℕ) → f 0 a ≡ give tt
-  pub more : (n a : ℕ) → f (suc n) a ≡ (r a >>= (λ _. f n (suc a)))
-
--- text, a character repeated (neither has a number that goes up) and text from the pad
 pub text-turns : (step bias : ℕ) → Repeats (λ n a. text n step bias) (λ a. showNext step bias)
 unfolding text
 text-turns step bias = record { none = λ a. refl; more = λ n a. refl }
@@ -36,25 +26,7 @@ pub pad-turns : (bias : ℕ) → Repeats (λ n a. padText n a bias) (λ a. showC
 unfolding padText
 pad-turns bias = record { none = λ a. refl; more = λ n a. refl }
 
-module _ {f : ℕ → ℕ → Rule (Unit {0})} {r : ℕ → Rule (Unit {0})} (t : Repeats f r) where
-  -- a turn: what is left to do, from where it has come to
-  pub turn-more : (i : List ℕ) (o o₁ : Out (Unit {0})) (n a : ℕ) → 0 < n → o₁ ≡ after i o (r a) → after i o₁ (f (n - 1) (a + 1)) ≡ after i o (f n a)
-  turn-more i o o₁ zero a h e = absurd (omega arith)
-  turn-more i o o₁ (suc n) a h e =
-      let z : suc n - 1 ≡ n = omega arith in
-      rw (z, add-one a, t .more n a, e) (sym (after-then i o (r a) (f n (suc a))))
-
-  -- none left
-  pub turn-none : (i : List ℕ) (o : Out (Unit {0})) (n a : ℕ) → n ≡ 0 → o ≡ after i o (f n a)
-  turn-none i o n a h = idle i o ∙ ap (λ (x : Rule (Unit {0})). after i o x) (sym (ap (λ (k : ℕ). f k a) h ∙ t .none a))
-
 -- ---- a code
-
--- one with a count, which the code has under another name; and on
-pub counted : (i : List ℕ) (o o₁ : Out (Unit {0})) (o₂ : Out Turn) (f : ℕ → Rule (Unit {0})) (n k bias blocks : ℕ) → n ≡ k → o₁ ≡ after i o (f n)
-    → o₂ ≡ after i o₁ (give (on bias blocks)) → o₂ ≡ after i o (goOn bias blocks (f k))
-unfolding goOn
-counted i o o₁ o₂ f n k bias blocks e h s = seq i o o₁ o₂ (f k) (give (on bias blocks)) (via i o o₁ f n k e h) s
 
 -- one below >80
 pub code-text : (bias blocks c : ℕ) → c < 0x80 → codeRule bias blocks c ≡ textCode bias blocks c
@@ -70,38 +42,25 @@ code-further bias blocks c h = rw (le-ltb c 0x20 (omega arith), le-ltb c 0x40 (o
 
 -- ---- the loop of codes
 
--- a code, and the rest from where it leaves the format string
-code-then : (i : List ℕ) (o o₁ : Out (Unit {0})) (n bias blocks : ℕ) (t : Turn) → 0 < n → valued t o₁ ≡ after i o (code bias blocks)
-    → after i o₁ (codes (n - 1) t) ≡ after i o (codes n (on bias blocks))
+-- a code, and the rest from where it leaves the string
+pub codes-turn : {n : ℕ} (bias blocks : ℕ) → 0 < n → codes n (on bias blocks) ≡ (code bias blocks >>= codes (n - 1))
 unfolding codes
-code-then i o o₁ zero bias blocks t h e = absurd (omega arith)
-code-then i o o₁ (suc n) bias blocks t h e =
-    let z : suc n - 1 ≡ n = omega arith in
-    rw z (bind i o t o₁ (after i o₁ (codes n t)) (code bias blocks) (codes n) e refl)
+codes-turn {n = n} bias blocks h =
+    let x : n ≡ suc (n - 1) = omega arith in
+    ap (λ (k : ℕ). codes k (on bias blocks)) x
 
-over-idle : (i : List ℕ) (o : Out (Unit {0})) (n : ℕ) → o ≡ after i o (codes n over)
-unfolding codes
-over-idle i o zero = idle i o
-over-idle i o (suc n) = idle i o
+-- there it goes on
+pub codes-on : {going : Bool} (n bias blocks : ℕ) → going ≡ true → codes n (on bias blocks) ≡ codes n (turnOf going bias blocks)
+unfolding turnOf
+codes-on n bias blocks h = rw h
 
-module _ (i : List ℕ) (o o₁ : Out (Unit {0})) (n bias blocks bias₁ blocks₁ : ℕ) (going : Bool) (h : 0 < n)
-    (e : valued (turnOf going bias₁ blocks₁) o₁ ≡ after i o (code bias blocks)) where
-  -- a code after which it goes on
-  pub codes-more : going ≡ true → after i o₁ (codes (n - 1) (on bias₁ blocks₁)) ≡ after i o (codes n (on bias blocks))
-  unfolding turnOf
-  codes-more k = code-then i o o₁ n bias blocks (on bias₁ blocks₁) h (rw k at e)
+-- there it ends
+pub codes-over : {going : Bool} (n bias blocks : ℕ) → going ≡ false → codes n (turnOf going bias blocks) ≡ give tt
+unfolding codes turnOf
+codes-over zero bias blocks h = rw h
+codes-over (suc n) bias blocks h = rw h
 
-  -- its last
-  pub codes-over : going ≡ false → o₁ ≡ after i o (codes n (on bias blocks))
-  unfolding turnOf
-  codes-over k = over-idle i o₁ (n - 1) ∙ code-then i o o₁ n bias blocks over h (rw k at e)
-
--- one that was refused
-pub codes-refused : (i : List ℕ) (o : Out (Unit {0})) (a pc : ℕ) (m : Mem) (n bias blocks : ℕ) (t : Turn) → 0 < n
-    → valued t (outs a pc m) ≡ after i o (code bias blocks) → (a ≡ 0 → ⊥) → outs a pc m ≡ after i o (codes n (on bias blocks))
-codes-refused i o a pc m n bias blocks t h e k = still i a pc m (codes (n - 1) t) k ∙ code-then i o (outs a pc m) n bias blocks t h e
-
--- one too many
-pub codes-out : (i : List ℕ) (o : Out (Unit {0})) (n bias blocks : ℕ) → n ≡ 0 → after i o (need false tooLong) ≡ after i o (codes n (on bias blocks))
+-- one code too many
+pub codes-out : {n : ℕ} (bias blocks : ℕ) → n ≡ 0 → codes n (on bias blocks) ≡ need false tooLong
 unfolding codes need
-codes-out i o n bias blocks h = rw h refl
+codes-out bias blocks h = rw h

@@ -1,13 +1,13 @@
 -- Where a format string stands after a code, in the words of the rules; and the codes that have a function of their own.
 use mathlib.Core.Bool.{Bool, true, false}
-use mathlib.Core.List.{List}
 use Prim.Native.Nat.{ℕ}
 use lib.Dec.{ltb}
 use Rattle.rules.specs.Machine.{pick, ypt, xpt}
-use Rattle.rules.specs.Rules.{Rule, Out, valued}
+use Rattle.rules.specs.Rules.{Rule}
 use Rattle.rules.specs.Format as fmt
 use Rattle.rules.specs.Format.{text, repeatText, goOn, openBlock, operandText, endCode, gromBias, operandBias, cursorCode, count}
-use Rattle.machine.specs.Said.{out}
+use Rattle.machine.specs.declared.state.Now.{Now}
+use Rattle.machine.specs.Said.{Parts, Gives}
 use Rattle.format.specs.declared.codes.Turn.{Turn}
 
 -- going on with a bias and so many blocks not yet closed, or at its end
@@ -15,9 +15,9 @@ unfoldable pub turnOf : Bool → ℕ → ℕ → fmt.Turn
 turnOf true bias blocks = fmt.on bias blocks
 turnOf false bias blocks = fmt.over
 
--- beside pad, VDP RAM, registers and journal, as what the rule of a code leaves
-abbrev pub turned : List ℕ → List ℕ → List ℕ → List ℕ → Turn → Out fmt.Turn
-turned p v g j t = valued (turnOf (t .going) (t .bias) (t .blocks)) (out p v g j (t .now))
+-- where a code that a function does leaves the string, in its contract
+abbrev pub Turns : Rule fmt.Turn → (Parts → Parts) → Now → Turn → Type 0
+Turns r f m t = Gives (turnOf (t .going) (t .bias) (t .blocks)) r f m (t .now)
 
 -- two parts of `codeRule`: text, below >80, and what comes from >C0 up. `by_code` is proved to follow the whole
 unfoldable pub textCode : ℕ → ℕ → ℕ → Rule fmt.Turn

@@ -1,20 +1,16 @@
 // The codes of a format string: one function for each kind, one that picks among them, and the loop.
 use crate::cursor;
 use crate::text;
+use machine::answers;
+use machine::cells;
 use machine::state::Now;
 ghost use mathlib.Core.Path.{_≡_};
-ghost use mathlib.Core.List.{List};
-ghost use Prim.Native.Nat.{ℕ, _+_, _-_, _≤_, _<_};
-ghost use lib.ListN.{length};
-ghost use Rattle.rules.specs.Rules.{after, give};
+ghost use Prim.Native.Nat.{_+_, _-_, _≤_, _<_};
+ghost use Rattle.rules.specs.Rules.{give};
 ghost use Rattle.rules.specs.Format;
 ghost use Rattle.rules.specs.Format.{on, count, openBlock, closeBlock, repeatBlock, blockTurn, endInside, endOutside, endCode, gromBias, operandBias, codeRule, fmtRule};
-ghost use Rattle.machine.specs.Said.{out};
-ghost use Rattle.format.specs.Turns.{turned, textCode, highCode};
-
-const POINTER: usize = 0x73;
-
-const TOO_LONG: u8 = 8;
+ghost use Rattle.machine.specs.Said.{_&_, Does, Image, IsPad, IsVram, Journal, Nothing, Pad, Vram};
+ghost use Rattle.format.specs.Turns.{textCode, highCode, Turns};
 
 const MOST_CODES: u16 = 16384;
 
@@ -27,7 +23,7 @@ pub struct Turn {
 }
 
 fn go_on(m: Now, bias: u8, blocks: u16) -> Turn
-    ensures { λ r. ⌜ (r .blocks ≡ blocks) × ((i p v g j : List ℕ) → turned p v g j r ≡ after i (out p v g j m) (give (on bias blocks))) ⌝ }
+    ensures { λ r. ⌜ (r .blocks ≡ blocks) × Turns (give (on bias blocks)) Nothing m r ⌝ }
 {
     Turn {
         now: m,
@@ -41,10 +37,10 @@ fn go_on(m: Now, bias: u8, blocks: u16) -> Turn
 
 // The stack pointer up by 2, and there 256 minus the count.
 fn open_block(pad: &mut [u8], journal: &mut [u32], m: Now, n: u16, bias: u8, blocks: u16) -> Turn
-    requires { ⌜ (length (now pad) ≡ 256) × (0 < n) × (n ≤ 32) × (blocks ≤ 16384) ⌝ }
-    ensures { λ r. ⌜ (r .blocks ≤ blocks + 1) × ((i v g : List ℕ) → turned (now (pad .exit)) v g (now (journal .exit)) r ≡ after i (out (now (pad .entry)) v g (now (journal .entry)) m) (openBlock n bias blocks)) ⌝ }
+    requires { ⌜ IsPad pad × (0 < n) × (n ≤ 32) × (blocks ≤ 16384) ⌝ }
+    ensures { λ r. ⌜ (r .blocks ≤ blocks + 1) × Turns (openBlock n bias blocks) (Pad pad & Journal journal) m r ⌝ }
 {
-    let p = flow::stacks::raise(pad, journal, m);
+    let p = operand::stacks::raise(pad, journal, m);
     let at = p.byte as usize;
     let rest = 256 - n;
     let b = rest as u8;
@@ -64,17 +60,17 @@ fn lowered(p: u8) -> u8
 }
 
 fn close_block(pad: &mut [u8], journal: &mut [u32], m: Now, p: u8, bias: u8, blocks: u16) -> Turn
-    requires { ⌜ (length (now pad) ≡ 256) × (0 < blocks) ⌝ }
-    ensures { λ r. ⌜ (r .blocks ≤ blocks + 1) × ((i v g : List ℕ) → turned (now (pad .exit)) v g (now (journal .exit)) r ≡ after i (out (now (pad .entry)) v g (now (journal .entry)) m) (closeBlock p bias blocks)) ⌝ }
+    requires { ⌜ IsPad pad × (0 < blocks) ⌝ }
+    ensures { λ r. ⌜ (r .blocks ≤ blocks + 1) × Turns (closeBlock p bias blocks) (Pad pad & Journal journal) m r ⌝ }
 {
     let down = lowered(p);
-    let stored = machine::pad::poke_pad(pad, journal, m, POINTER, down);
+    let stored = machine::pad::poke_pad(pad, journal, m, cells::SUB_POINTER, down);
     let fewer = blocks - 1;
     go_on(stored, bias, fewer)
 }
 
 fn repeat_block(m: Now, a: u16, bias: u8, blocks: u16) -> Turn
-    ensures { λ r. ⌜ (r .blocks ≤ blocks + 1) × ((i p v g j : List ℕ) → turned p v g j r ≡ after i (out p v g j m) (repeatBlock a bias blocks)) ⌝ }
+    ensures { λ r. ⌜ (r .blocks ≤ blocks + 1) × Turns (repeatBlock a bias blocks) Nothing m r ⌝ }
 {
     let jumped = machine::state::jump(m, a);
     go_on(jumped, bias, blocks)
@@ -91,8 +87,8 @@ fn block_turn(
     bias: u8,
     blocks: u16,
 ) -> Turn
-    requires { ⌜ (length (now pad) ≡ 256) × (0 < blocks) ⌝ }
-    ensures { λ r. ⌜ (r .blocks ≤ blocks + 1) × ((i v g : List ℕ) → turned (now (pad .exit)) v g (now (journal .exit)) r ≡ after i (out (now (pad .entry)) v g (now (journal .entry)) m) (blockTurn n p a bias blocks)) ⌝ }
+    requires { ⌜ IsPad pad × (0 < blocks) ⌝ }
+    ensures { λ r. ⌜ (r .blocks ≤ blocks + 1) × Turns (blockTurn n p a bias blocks) (Pad pad & Journal journal) m r ⌝ }
 {
     if n == 0 {
         return close_block(pad, journal, m, p, bias, blocks);
@@ -110,11 +106,11 @@ fn end_inside(
     bias: u8,
     blocks: u16,
 ) -> Turn
-    requires { ⌜ (length (now pad) ≡ 256) × (0 < blocks) ⌝ }
-    ensures { λ r. ⌜ (r .blocks ≤ blocks + 1) × ((v g : List ℕ) → turned (now (pad .exit)) v g (now (journal .exit)) r ≡ after (now (image .entry)) (out (now (pad .entry)) v g (now (journal .entry)) m) (endInside bias blocks)) ⌝ }
+    requires { ⌜ IsPad pad × (0 < blocks) ⌝ }
+    ensures { λ r. ⌜ (r .blocks ≤ blocks + 1) × Turns (endInside bias blocks) (Image image & Pad pad & Journal journal) m r ⌝ }
 {
     let a = machine::grom::next_word(image, m);
-    let p = machine::pad::peek_pad(pad, a, POINTER);
+    let p = machine::pad::peek_pad(pad, a, cells::SUB_POINTER);
     let at = p.byte as usize;
     let n = machine::pad::peek_pad(pad, p, at);
     let up = std::num::wrapping_add_u8(n.byte, 1);
@@ -123,8 +119,8 @@ fn end_inside(
 }
 
 fn end_outside(pad: &mut [u8], journal: &mut [u32], m: Now) -> Turn
-    requires { ⌜ length (now pad) ≡ 256 ⌝ }
-    ensures { λ r. ⌜ (r .blocks ≡ 0) × ((i v g : List ℕ) → turned (now (pad .exit)) v g (now (journal .exit)) r ≡ after i (out (now (pad .entry)) v g (now (journal .entry)) m) endOutside) ⌝ }
+    requires { ⌜ IsPad pad ⌝ }
+    ensures { λ r. ⌜ (r .blocks ≡ 0) × Turns endOutside (Pad pad & Journal journal) m r ⌝ }
 {
     let settled = cursor::settle_cursor(pad, journal, m);
     Turn {
@@ -143,8 +139,8 @@ fn end_code(
     bias: u8,
     blocks: u16,
 ) -> Turn
-    requires { ⌜ length (now pad) ≡ 256 ⌝ }
-    ensures { λ r. ⌜ (r .blocks ≤ blocks + 1) × ((v g : List ℕ) → turned (now (pad .exit)) v g (now (journal .exit)) r ≡ after (now (image .entry)) (out (now (pad .entry)) v g (now (journal .entry)) m) (endCode bias blocks)) ⌝ }
+    requires { ⌜ IsPad pad ⌝ }
+    ensures { λ r. ⌜ (r .blocks ≤ blocks + 1) × Turns (endCode bias blocks) (Image image & Pad pad & Journal journal) m r ⌝ }
 {
     if blocks == 0 {
         return end_outside(pad, journal, m);
@@ -155,15 +151,15 @@ fn end_code(
 // ---- the bias
 
 fn grom_bias(image: &[u8], m: Now, blocks: u16) -> Turn
-    ensures { λ r. ⌜ (r .blocks ≤ blocks + 1) × ((p v g j : List ℕ) → turned p v g j r ≡ after (now (image .entry)) (out p v g j m) (gromBias blocks)) ⌝ }
+    ensures { λ r. ⌜ (r .blocks ≤ blocks + 1) × Turns (gromBias blocks) (Image image) m r ⌝ }
 {
     let b = machine::grom::next_byte(image, m);
     go_on(b, b.byte, blocks)
 }
 
 fn operand_bias(image: &[u8], pad: &mut [u8], journal: &mut [u32], m: Now, blocks: u16) -> Turn
-    requires { ⌜ length (now pad) ≡ 256 ⌝ }
-    ensures { λ r. ⌜ (r .blocks ≤ blocks + 1) × ((v g : List ℕ) → turned (now (pad .exit)) v g (now (journal .exit)) r ≡ after (now (image .entry)) (out (now (pad .entry)) v g (now (journal .entry)) m) (operandBias blocks)) ⌝ }
+    requires { ⌜ IsPad pad ⌝ }
+    ensures { λ r. ⌜ (r .blocks ≤ blocks + 1) × Turns (operandBias blocks) (Image image & Pad pad & Journal journal) m r ⌝ }
 {
     let a = text::cpu_operand(image, pad, journal, m);
     let at = a.word as usize;
@@ -192,8 +188,8 @@ fn text_code(
     blocks: u16,
     c: u8,
 ) -> Turn
-    requires { ⌜ (length (now pad) ≡ 256) × (length (now vram) ≡ 16384) ⌝ }
-    ensures { λ r. ⌜ (r .blocks ≤ blocks + 1) × ((g : List ℕ) → turned (now (pad .exit)) (now (vram .exit)) g (now (journal .exit)) r ≡ after (now (image .entry)) (out (now (pad .entry)) (now (vram .entry)) g (now (journal .entry)) m) (textCode bias blocks c)) ⌝ }
+    requires { ⌜ IsPad pad × IsVram vram ⌝ }
+    ensures { λ r. ⌜ (r .blocks ≤ blocks + 1) × Turns (textCode bias blocks c) (Image image & Pad pad & Vram vram & Journal journal) m r ⌝ }
 {
     let n = count_of(c);
     if c < 0x20 {
@@ -223,8 +219,8 @@ fn high_code(
     blocks: u16,
     c: u8,
 ) -> Turn
-    requires { ⌜ (length (now pad) ≡ 256) × (length (now vram) ≡ 16384) × (blocks ≤ 16384) ⌝ }
-    ensures { λ r. ⌜ (r .blocks ≤ blocks + 1) × ((g : List ℕ) → turned (now (pad .exit)) (now (vram .exit)) g (now (journal .exit)) r ≡ after (now (image .entry)) (out (now (pad .entry)) (now (vram .entry)) g (now (journal .entry)) m) (highCode bias blocks c)) ⌝ }
+    requires { ⌜ IsPad pad × IsVram vram × (blocks ≤ 16384) ⌝ }
+    ensures { λ r. ⌜ (r .blocks ≤ blocks + 1) × Turns (highCode bias blocks c) (Image image & Pad pad & Vram vram & Journal journal) m r ⌝ }
 {
     let n = count_of(c);
     if c < 0xE0 {
@@ -244,10 +240,10 @@ fn high_code(
         return operand_bias(image, pad, journal, m, blocks);
     }
     if c < 0xFF {
-        let row = cursor::cursor_code(image, pad, journal, m, cursor::ROW);
+        let row = cursor::cursor_code(image, pad, journal, m, cells::ROW);
         return go_on(row, bias, blocks);
     }
-    let column = cursor::cursor_code(image, pad, journal, m, cursor::COLUMN);
+    let column = cursor::cursor_code(image, pad, journal, m, cells::COLUMN);
     go_on(column, bias, blocks)
 }
 
@@ -261,8 +257,8 @@ fn by_code(
     blocks: u16,
     c: u8,
 ) -> Turn
-    requires { ⌜ (length (now pad) ≡ 256) × (length (now vram) ≡ 16384) × (blocks ≤ 16384) ⌝ }
-    ensures { λ r. ⌜ (r .blocks ≤ blocks + 1) × ((g : List ℕ) → turned (now (pad .exit)) (now (vram .exit)) g (now (journal .exit)) r ≡ after (now (image .entry)) (out (now (pad .entry)) (now (vram .entry)) g (now (journal .entry)) m) (codeRule bias blocks c)) ⌝ }
+    requires { ⌜ IsPad pad × IsVram vram × (blocks ≤ 16384) ⌝ }
+    ensures { λ r. ⌜ (r .blocks ≤ blocks + 1) × Turns (codeRule bias blocks c) (Image image & Pad pad & Vram vram & Journal journal) m r ⌝ }
 {
     let n = count_of(c);
     if c < 0x80 {
@@ -289,8 +285,8 @@ fn code(
     bias: u8,
     blocks: u16,
 ) -> Turn
-    requires { ⌜ (length (now pad) ≡ 256) × (length (now vram) ≡ 16384) × (blocks ≤ 16384) ⌝ }
-    ensures { λ r. ⌜ (r .blocks ≤ blocks + 1) × ((g : List ℕ) → turned (now (pad .exit)) (now (vram .exit)) g (now (journal .exit)) r ≡ after (now (image .entry)) (out (now (pad .entry)) (now (vram .entry)) g (now (journal .entry)) m) (Format.code bias blocks)) ⌝ }
+    requires { ⌜ IsPad pad × IsVram vram × (blocks ≤ 16384) ⌝ }
+    ensures { λ r. ⌜ (r .blocks ≤ blocks + 1) × Turns (Format.code bias blocks) (Image image & Pad pad & Vram vram & Journal journal) m r ⌝ }
 {
     let c = machine::grom::next_byte(image, m);
     by_code(image, pad, vram, journal, c, bias, blocks, c.byte)
@@ -298,8 +294,8 @@ fn code(
 
 // At most 16,384 codes: the next is refused before it is read.
 pub fn format(image: &[u8], pad: &mut [u8], vram: &mut [u8], journal: &mut [u32], m: Now) -> Now
-    requires { ⌜ (length (now pad) ≡ 256) × (length (now vram) ≡ 16384) ⌝ }
-    ensures { λ r. ⌜ ((g : List ℕ) → out (now (pad .exit)) (now (vram .exit)) g (now (journal .exit)) r ≡ after (now (image .entry)) (out (now (pad .entry)) (now (vram .entry)) g (now (journal .entry)) m) fmtRule) ⌝ }
+    requires { ⌜ IsPad pad × IsVram vram ⌝ }
+    ensures { λ r. ⌜ Does fmtRule (Image image & Pad pad & Vram vram & Journal journal) m r ⌝ }
 {
     let mut x = m;
     let mut bias: u8 = 0;
@@ -318,5 +314,5 @@ pub fn format(image: &[u8], pad: &mut [u8], vram: &mut [u8], journal: &mut [u32]
         blocks = t.blocks;
         left -= 1;
     }
-    machine::state::need(x, false, TOO_LONG)
+    machine::state::need(x, false, answers::TOO_LONG)
 }

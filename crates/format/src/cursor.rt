@@ -1,32 +1,25 @@
 // The cursor: a character shown, cells skipped, row and column stored.
+use machine::cells;
 use machine::state::Now;
-ghost use mathlib.Core.Path.{_≡_};
-ghost use mathlib.Core.List.{List};
-ghost use Prim.Native.Nat.{ℕ, _≤_};
-ghost use lib.ListN.{length};
-ghost use Rattle.rules.specs.Rules.{after};
+ghost use Prim.Native.Nat.{_≤_};
 ghost use Rattle.rules.specs.Format;
 ghost use Rattle.rules.specs.Format.{setCursor, settleCursor, cursorCode};
-ghost use Rattle.machine.specs.Said.{out};
-
-pub const ROW: usize = 0x7E;
-
-pub const COLUMN: usize = 0x7F;
+ghost use Rattle.machine.specs.Said.{_&_, Does, Image, IsPad, IsVram, Journal, Pad, Vram};
 
 fn set_cursor(pad: &mut [u8], journal: &mut [u32], m: Now, p: u16) -> Now
-    requires { ⌜ length (now pad) ≡ 256 ⌝ }
-    ensures { λ r. ⌜ ((i v g : List ℕ) → out (now (pad .exit)) v g (now (journal .exit)) r ≡ after i (out (now (pad .entry)) v g (now (journal .entry)) m) (setCursor p)) ⌝ }
+    requires { ⌜ IsPad pad ⌝ }
+    ensures { λ r. ⌜ Does (setCursor p) (Pad pad & Journal journal) m r ⌝ }
 {
     let row = number::cursor::row_of(p);
     let column = number::cursor::column_of(p);
-    let first = machine::pad::poke_pad(pad, journal, m, ROW, row);
-    machine::pad::poke_pad(pad, journal, first, COLUMN, column)
+    let first = machine::pad::poke_pad(pad, journal, m, cells::ROW, row);
+    machine::pad::poke_pad(pad, journal, first, cells::COLUMN, column)
 }
 
 // A character at the position, which grows by the step.
 pub fn show(pad: &mut [u8], vram: &mut [u8], journal: &mut [u32], m: Now, step: u16, b: u8) -> Now
-    requires { ⌜ (length (now pad) ≡ 256) × (length (now vram) ≡ 16384) × (step ≤ 32) ⌝ }
-    ensures { λ r. ⌜ ((i g : List ℕ) → out (now (pad .exit)) (now (vram .exit)) g (now (journal .exit)) r ≡ after i (out (now (pad .entry)) (now (vram .entry)) g (now (journal .entry)) m) (Format.show step b)) ⌝ }
+    requires { ⌜ IsPad pad × IsVram vram × (step ≤ 32) ⌝ }
+    ensures { λ r. ⌜ Does (Format.show step b) (Pad pad & Vram vram & Journal journal) m r ⌝ }
 {
     let p = operand::screen::position(pad, m);
     let drawn = operand::screen::draw(vram, journal, p, p.word, b);
@@ -37,8 +30,8 @@ pub fn show(pad: &mut [u8], vram: &mut [u8], journal: &mut [u32], m: Now, step: 
 
 // n cells on.
 pub fn skip(pad: &mut [u8], journal: &mut [u32], m: Now, n: u16) -> Now
-    requires { ⌜ (length (now pad) ≡ 256) × (n ≤ 1024) ⌝ }
-    ensures { λ r. ⌜ ((i v g : List ℕ) → out (now (pad .exit)) v g (now (journal .exit)) r ≡ after i (out (now (pad .entry)) v g (now (journal .entry)) m) (Format.skip n)) ⌝ }
+    requires { ⌜ IsPad pad × (n ≤ 1024) ⌝ }
+    ensures { λ r. ⌜ Does (Format.skip n) (Pad pad & Journal journal) m r ⌝ }
 {
     let p = operand::screen::position(pad, m);
     let far = p.word + n;
@@ -48,8 +41,8 @@ pub fn skip(pad: &mut [u8], journal: &mut [u32], m: Now, n: u16) -> Now
 
 // Row and column stored as the position gives them.
 pub fn settle_cursor(pad: &mut [u8], journal: &mut [u32], m: Now) -> Now
-    requires { ⌜ length (now pad) ≡ 256 ⌝ }
-    ensures { λ r. ⌜ ((i v g : List ℕ) → out (now (pad .exit)) v g (now (journal .exit)) r ≡ after i (out (now (pad .entry)) v g (now (journal .entry)) m) settleCursor) ⌝ }
+    requires { ⌜ IsPad pad ⌝ }
+    ensures { λ r. ⌜ Does settleCursor (Pad pad & Journal journal) m r ⌝ }
 {
     let p = operand::screen::position(pad, m);
     set_cursor(pad, journal, p, p.word)
@@ -57,8 +50,8 @@ pub fn settle_cursor(pad: &mut [u8], journal: &mut [u32], m: Now) -> Now
 
 // A new row or column, at `at`: both are stored before it is read.
 pub fn cursor_code(image: &[u8], pad: &mut [u8], journal: &mut [u32], m: Now, at: usize) -> Now
-    requires { ⌜ length (now pad) ≡ 256 ⌝ }
-    ensures { λ r. ⌜ ((v g : List ℕ) → out (now (pad .exit)) v g (now (journal .exit)) r ≡ after (now (image .entry)) (out (now (pad .entry)) v g (now (journal .entry)) m) (cursorCode at)) ⌝ }
+    requires { ⌜ IsPad pad ⌝ }
+    ensures { λ r. ⌜ Does (cursorCode at) (Image image & Pad pad & Journal journal) m r ⌝ }
 {
     let settled = settle_cursor(pad, journal, m);
     let b = machine::grom::next_byte(image, settled);

@@ -1,18 +1,14 @@
 // Text: characters from GROM, one character repeated, characters from the pad. Each is shown with the bias added.
 use crate::cursor;
+use machine::answers;
 use machine::state::Now;
 use operand::places::Place;
 ghost use mathlib.Core.Path.{_≡_};
-ghost use mathlib.Core.List.{List};
-ghost use Prim.Native.Nat.{ℕ, _≤_, _<_};
-ghost use lib.ListN.{length};
-ghost use Rattle.rules.specs.Rules.{after, valued};
+ghost use Prim.Native.Nat.{_≤_, _<_};
 ghost use Rattle.rules.specs.Format;
 ghost use Rattle.rules.specs.Format.{showNext, showTimes, repeatText, isCpu, cpuOperand, showCell, padText, operandText};
-ghost use Rattle.machine.specs.Said.{out};
+ghost use Rattle.machine.specs.Said.{_&_, Does, Gives, Image, IsPad, IsVram, Journal, Pad, Vram};
 ghost use Rattle.operand.specs.Places.{cellOf};
-
-const OFF_CPU: u8 = 4;
 
 // ---- from GROM
 
@@ -25,8 +21,8 @@ fn show_next(
     step: u16,
     bias: u8,
 ) -> Now
-    requires { ⌜ (length (now pad) ≡ 256) × (length (now vram) ≡ 16384) × (step ≤ 32) ⌝ }
-    ensures { λ r. ⌜ ((g : List ℕ) → out (now (pad .exit)) (now (vram .exit)) g (now (journal .exit)) r ≡ after (now (image .entry)) (out (now (pad .entry)) (now (vram .entry)) g (now (journal .entry)) m) (showNext step bias)) ⌝ }
+    requires { ⌜ IsPad pad × IsVram vram × (step ≤ 32) ⌝ }
+    ensures { λ r. ⌜ Does (showNext step bias) (Image image & Pad pad & Vram vram & Journal journal) m r ⌝ }
 {
     let ch = machine::grom::next_byte(image, m);
     let b = std::num::wrapping_add_u8(ch.byte, bias);
@@ -44,8 +40,8 @@ pub fn text(
     step: u16,
     bias: u8,
 ) -> Now
-    requires { ⌜ (length (now pad) ≡ 256) × (length (now vram) ≡ 16384) × (step ≤ 32) ⌝ }
-    ensures { λ r. ⌜ ((g : List ℕ) → out (now (pad .exit)) (now (vram .exit)) g (now (journal .exit)) r ≡ after (now (image .entry)) (out (now (pad .entry)) (now (vram .entry)) g (now (journal .entry)) m) (Format.text n step bias)) ⌝ }
+    requires { ⌜ IsPad pad × IsVram vram × (step ≤ 32) ⌝ }
+    ensures { λ r. ⌜ Does (Format.text n step bias) (Image image & Pad pad & Vram vram & Journal journal) m r ⌝ }
 {
     let mut x = m;
     let mut left = n;
@@ -69,8 +65,8 @@ fn show_times(
     step: u16,
     b: u8,
 ) -> Now
-    requires { ⌜ (length (now pad) ≡ 256) × (length (now vram) ≡ 16384) × (step ≤ 32) ⌝ }
-    ensures { λ r. ⌜ ((i g : List ℕ) → out (now (pad .exit)) (now (vram .exit)) g (now (journal .exit)) r ≡ after i (out (now (pad .entry)) (now (vram .entry)) g (now (journal .entry)) m) (showTimes n step b)) ⌝ }
+    requires { ⌜ IsPad pad × IsVram vram × (step ≤ 32) ⌝ }
+    ensures { λ r. ⌜ Does (showTimes n step b) (Pad pad & Vram vram & Journal journal) m r ⌝ }
 {
     let mut x = m;
     let mut left = n;
@@ -94,8 +90,8 @@ pub fn repeat_text(
     step: u16,
     bias: u8,
 ) -> Now
-    requires { ⌜ (length (now pad) ≡ 256) × (length (now vram) ≡ 16384) × (step ≤ 32) ⌝ }
-    ensures { λ r. ⌜ ((g : List ℕ) → out (now (pad .exit)) (now (vram .exit)) g (now (journal .exit)) r ≡ after (now (image .entry)) (out (now (pad .entry)) (now (vram .entry)) g (now (journal .entry)) m) (repeatText n step bias)) ⌝ }
+    requires { ⌜ IsPad pad × IsVram vram × (step ≤ 32) ⌝ }
+    ensures { λ r. ⌜ Does (repeatText n step bias) (Image image & Pad pad & Vram vram & Journal journal) m r ⌝ }
 {
     let repeated = machine::grom::next_byte(image, m);
     let b = std::num::wrapping_add_u8(repeated.byte, bias);
@@ -124,13 +120,13 @@ fn offset_of(place: Place) -> u16
 
 // The pad offset of an operand; a VDP cell is refused.
 pub fn cpu_operand(image: &[u8], pad: &mut [u8], journal: &mut [u32], m: Now) -> Now
-    requires { ⌜ length (now pad) ≡ 256 ⌝ }
-    ensures { λ r. ⌜ ((v g : List ℕ) → valued (r .word) (out (now (pad .exit)) v g (now (journal .exit)) r) ≡ after (now (image .entry)) (out (now (pad .entry)) v g (now (journal .entry)) m) cpuOperand) ⌝ }
+    requires { ⌜ IsPad pad ⌝ }
+    ensures { λ r. ⌜ Gives (r .word) cpuOperand (Image image & Pad pad & Journal journal) m r ⌝ }
 {
     let o = operand::decode::operand(image, pad, journal, m, 1);
     let at = operand::places::now_of(o);
     let place = operand::places::place_of(o);
-    let sound = machine::state::need(at, is_cpu(place), OFF_CPU);
+    let sound = machine::state::need(at, is_cpu(place), answers::OFF_CPU);
     machine::state::give_word(sound, offset_of(place))
 }
 
@@ -142,8 +138,8 @@ fn show_cell(
     a: usize,
     bias: u8,
 ) -> Now
-    requires { ⌜ (length (now pad) ≡ 256) × (length (now vram) ≡ 16384) ⌝ }
-    ensures { λ r. ⌜ ((i g : List ℕ) → out (now (pad .exit)) (now (vram .exit)) g (now (journal .exit)) r ≡ after i (out (now (pad .entry)) (now (vram .entry)) g (now (journal .entry)) m) (showCell a bias)) ⌝ }
+    requires { ⌜ IsPad pad × IsVram vram ⌝ }
+    ensures { λ r. ⌜ Does (showCell a bias) (Pad pad & Vram vram & Journal journal) m r ⌝ }
 {
     let ch = machine::pad::peek_pad(pad, m, a);
     let b = std::num::wrapping_add_u8(ch.byte, bias);
@@ -160,8 +156,8 @@ fn pad_text(
     a: usize,
     bias: u8,
 ) -> Now
-    requires { ⌜ (length (now pad) ≡ 256) × (length (now vram) ≡ 16384) × (a < 65536) ⌝ }
-    ensures { λ r. ⌜ ((i g : List ℕ) → out (now (pad .exit)) (now (vram .exit)) g (now (journal .exit)) r ≡ after i (out (now (pad .entry)) (now (vram .entry)) g (now (journal .entry)) m) (padText n a bias)) ⌝ }
+    requires { ⌜ IsPad pad × IsVram vram × (a < 65536) ⌝ }
+    ensures { λ r. ⌜ Does (padText n a bias) (Pad pad & Vram vram & Journal journal) m r ⌝ }
 {
     let mut x = m;
     let mut left = n;
@@ -186,8 +182,8 @@ pub fn operand_text(
     n: u16,
     bias: u8,
 ) -> Now
-    requires { ⌜ (length (now pad) ≡ 256) × (length (now vram) ≡ 16384) ⌝ }
-    ensures { λ r. ⌜ ((g : List ℕ) → out (now (pad .exit)) (now (vram .exit)) g (now (journal .exit)) r ≡ after (now (image .entry)) (out (now (pad .entry)) (now (vram .entry)) g (now (journal .entry)) m) (operandText n bias)) ⌝ }
+    requires { ⌜ IsPad pad × IsVram vram ⌝ }
+    ensures { λ r. ⌜ Does (operandText n bias) (Image image & Pad pad & Vram vram & Journal journal) m r ⌝ }
 {
     let a = cpu_operand(image, pad, journal, m);
     let at = a.word as usize;

@@ -1,14 +1,12 @@
 // Reading the image: at pc, which moves on, and at an address.
+use crate::answers;
 use crate::state;
 use crate::state::Now;
-ghost use mathlib.Core.Path.{_≡_};
-ghost use mathlib.Core.List.{List};
-ghost use Prim.Native.Nat.{ℕ};
-ghost use Rattle.rules.specs.Rules.{after, valued, nextByte, nextWord, gromByte};
-ghost use Rattle.machine.specs.Said.{out};
+ghost use Rattle.rules.specs.Rules.{nextByte, nextWord, gromByte};
+ghost use Rattle.machine.specs.Said.{Gives, Image};
 
 pub fn next_byte(image: &[u8], m: Now) -> Now
-    ensures { λ r. ⌜ ((p v g j : List ℕ) → valued (r .byte) (out p v g j r) ≡ after (now (image .entry)) (out p v g j m) nextByte) ⌝ }
+    ensures { λ r. ⌜ Gives (r .byte) nextByte (Image image) m r ⌝ }
 {
     let pc = m.pc;
     let at = pc as usize;
@@ -19,7 +17,7 @@ pub fn next_byte(image: &[u8], m: Now) -> Now
         return Now {
             pc,
             used: m.used,
-            answer: 6,
+            answer: answers::OFF_GROM,
             byte: 0,
             word: 0,
         };
@@ -34,7 +32,7 @@ pub fn next_byte(image: &[u8], m: Now) -> Now
 }
 
 pub fn grom_byte(image: &[u8], m: Now, a: u16) -> Now
-    ensures { λ r. ⌜ ((p v g j : List ℕ) → valued (r .byte) (out p v g j r) ≡ after (now (image .entry)) (out p v g j m) (gromByte a)) ⌝ }
+    ensures { λ r. ⌜ Gives (r .byte) (gromByte a) (Image image) m r ⌝ }
 {
     let at = a as usize;
     if m.answer != 0 {
@@ -44,7 +42,7 @@ pub fn grom_byte(image: &[u8], m: Now, a: u16) -> Now
         return Now {
             pc: m.pc,
             used: m.used,
-            answer: 6,
+            answer: answers::OFF_GROM,
             byte: 0,
             word: 0,
         };
@@ -59,7 +57,7 @@ pub fn grom_byte(image: &[u8], m: Now, a: u16) -> Now
 }
 
 pub fn next_word(image: &[u8], m: Now) -> Now
-    ensures { λ r. ⌜ ((p v g j : List ℕ) → valued (r .word) (out p v g j r) ≡ after (now (image .entry)) (out p v g j m) nextWord) ⌝ }
+    ensures { λ r. ⌜ Gives (r .word) nextWord (Image image) m r ⌝ }
 {
     let high = next_byte(image, m);
     let low = next_byte(image, high);

@@ -11,7 +11,7 @@ ghost use Rattle.rules.specs.Journal.{note, restore, undoTop};
 ghost use Rattle.rules.specs.Rules.{then};
 ghost use Rattle.rules.specs.Calls.{takeMark, scan};
 ghost use Rattle.machine.specs.Said;
-ghost use Rattle.machine.specs.Said.{out, found};
+ghost use Rattle.machine.specs.Said.{IsPad, IsRegs, IsVram, found, out};
 
 // The mark word of a step that began at `pc`.
 pub fn take_mark(journal: &mut [u32], m: Now, pc: u16) -> Now
@@ -54,7 +54,7 @@ fn put(cells: &mut [u8], reach: usize, at: usize, b: u8)
 
 // What a word says, put back into its cell.
 fn put_back(pad: &mut [u8], vram: &mut [u8], regs: &mut [u8], w: u32)
-    requires { ⌜ (length (now pad) ≡ 256) × (length (now vram) ≡ 16384) × (length (now regs) ≡ 8) ⌝ }
+    requires { ⌜ IsPad pad × IsVram vram × IsRegs regs ⌝ }
     ensures { λ _. ⌜ ((j : List ℕ) (u : ℕ) → mem (now (pad .exit)) (now (vram .exit)) (now (regs .exit)) j u ≡ restore (note w) (mem (now (pad .entry)) (now (vram .entry)) (now (regs .entry)) j u)) ⌝ }
 {
     let kind = number::words::kind_of(w);
@@ -83,7 +83,7 @@ fn undo_top(
     journal: &mut [u32],
     used: usize,
 ) -> usize
-    requires { ⌜ (length (now pad) ≡ 256) × (length (now vram) ≡ 16384) × (length (now regs) ≡ 8) × (used ≤ length (now journal)) ⌝ }
+    requires { ⌜ IsPad pad × IsVram vram × IsRegs regs × (used ≤ length (now journal)) ⌝ }
     ensures { λ r. ⌜ mem (now (pad .exit)) (now (vram .exit)) (now (regs .exit)) (now (journal .exit)) r ≡ undoTop used (mem (now (pad .entry)) (now (vram .entry)) (now (regs .entry)) (now (journal .entry)) used) ⌝ }
 {
     if used == 0 {
@@ -105,7 +105,7 @@ pub fn undo(
     used: usize,
     n: usize,
 ) -> usize
-    requires { ⌜ (length (now pad) ≡ 256) × (length (now vram) ≡ 16384) × (length (now regs) ≡ 8) × (used ≤ length (now journal)) ⌝ }
+    requires { ⌜ IsPad pad × IsVram vram × IsRegs regs × (used ≤ length (now journal)) ⌝ }
     ensures { λ r. ⌜ mem (now (pad .exit)) (now (vram .exit)) (now (regs .exit)) (now (journal .exit)) r ≡ Journal.undo n (mem (now (pad .entry)) (now (vram .entry)) (now (regs .entry)) (now (journal .entry)) used) ⌝ }
 {
     let mut u = used;

@@ -1,27 +1,26 @@
 // The pad: loads and journalled stores, of a byte and of a word. A store tests its range before its room.
+use crate::answers;
+use crate::cells;
 use crate::state;
 use crate::state::Now;
-ghost use mathlib.Core.Path.{_≡_};
-ghost use mathlib.Core.List.{List};
-ghost use Prim.Native.Nat.{ℕ, _<_, _^_};
-ghost use lib.ListN.{length};
+ghost use Prim.Native.Nat.{_<_, _^_};
 ghost use Rattle.rules.specs.Machine.{cpu};
-ghost use Rattle.rules.specs.Rules.{after, valued, peek, peekWord, poke};
+ghost use Rattle.rules.specs.Rules.{peek, peekWord, poke};
 ghost use Rattle.rules.specs.Operands.{pokeWord};
-ghost use Rattle.machine.specs.Said.{out};
+ghost use Rattle.machine.specs.Said.{_&_, Does, Gives, IsPad, Journal, Pad};
 
 pub fn peek_pad(pad: &[u8], m: Now, at: usize) -> Now
-    requires { ⌜ length (now pad) ≡ 256 ⌝ }
-    ensures { λ r. ⌜ ((i v g j : List ℕ) → valued (r .byte) (out (now (pad .entry)) v g j r) ≡ after i (out (now (pad .entry)) v g j m) (peek cpu at)) ⌝ }
+    requires { ⌜ IsPad pad ⌝ }
+    ensures { λ r. ⌜ Gives (r .byte) (peek cpu at) (Pad pad) m r ⌝ }
 {
     if m.answer != 0 {
         return m;
     }
-    if 0xE0 <= at {
+    if cells::PAD_REACH <= at {
         return Now {
             pc: m.pc,
             used: m.used,
-            answer: 4,
+            answer: answers::OFF_CPU,
             byte: 0,
             word: 0,
         };
@@ -36,8 +35,8 @@ pub fn peek_pad(pad: &[u8], m: Now, at: usize) -> Now
 }
 
 pub fn peek_pad_word(pad: &[u8], m: Now, at: usize) -> Now
-    requires { ⌜ (length (now pad) ≡ 256) × (at < 2 ^ 32) ⌝ }
-    ensures { λ r. ⌜ ((i v g j : List ℕ) → valued (r .word) (out (now (pad .entry)) v g j r) ≡ after i (out (now (pad .entry)) v g j m) (peekWord cpu at)) ⌝ }
+    requires { ⌜ IsPad pad × (at < 2 ^ 32) ⌝ }
+    ensures { λ r. ⌜ Gives (r .word) (peekWord cpu at) (Pad pad) m r ⌝ }
 {
     let high = peek_pad(pad, m, at);
     let beyond = at + 1;
@@ -46,18 +45,18 @@ pub fn peek_pad_word(pad: &[u8], m: Now, at: usize) -> Now
 }
 
 pub fn poke_pad(pad: &mut [u8], journal: &mut [u32], m: Now, at: usize, b: u8) -> Now
-    requires { ⌜ length (now pad) ≡ 256 ⌝ }
-    ensures { λ r. ⌜ ((i v g : List ℕ) → out (now (pad .exit)) v g (now (journal .exit)) r ≡ after i (out (now (pad .entry)) v g (now (journal .entry)) m) (poke cpu at b)) ⌝ }
+    requires { ⌜ IsPad pad ⌝ }
+    ensures { λ r. ⌜ Does (poke cpu at b) (Pad pad & Journal journal) m r ⌝ }
 {
     let used = m.used;
     if m.answer != 0 {
         return m;
     }
-    if 0xE0 <= at {
+    if cells::PAD_REACH <= at {
         return Now {
             pc: m.pc,
             used,
-            answer: 4,
+            answer: answers::OFF_CPU,
             byte: 0,
             word: 0,
         };
@@ -66,7 +65,7 @@ pub fn poke_pad(pad: &mut [u8], journal: &mut [u32], m: Now, at: usize, b: u8) -
         return Now {
             pc: m.pc,
             used,
-            answer: 10,
+            answer: answers::NO_ROOM,
             byte: 0,
             word: 0,
         };
@@ -87,8 +86,8 @@ pub fn poke_pad(pad: &mut [u8], journal: &mut [u32], m: Now, at: usize, b: u8) -
 
 // High byte first, each byte a store of its own.
 pub fn poke_pad_word(pad: &mut [u8], journal: &mut [u32], m: Now, at: usize, w: u16) -> Now
-    requires { ⌜ (length (now pad) ≡ 256) × (at < 2 ^ 32) ⌝ }
-    ensures { λ r. ⌜ ((i v g : List ℕ) → out (now (pad .exit)) v g (now (journal .exit)) r ≡ after i (out (now (pad .entry)) v g (now (journal .entry)) m) (pokeWord cpu at w)) ⌝ }
+    requires { ⌜ IsPad pad × (at < 2 ^ 32) ⌝ }
+    ensures { λ r. ⌜ Does (pokeWord cpu at w) (Pad pad & Journal journal) m r ⌝ }
 {
     let high = number::words::high_of(w);
     let low = number::words::low_of(w);

@@ -1,26 +1,24 @@
 // The VDP registers: a journalled store, which tests its range before its room.
+use crate::answers;
+use crate::cells;
 use crate::state::Now;
-ghost use mathlib.Core.Path.{_≡_};
-ghost use mathlib.Core.List.{List};
-ghost use Prim.Native.Nat.{ℕ};
-ghost use lib.ListN.{length};
 ghost use Rattle.rules.specs.Machine.{register};
-ghost use Rattle.rules.specs.Rules.{after, poke};
-ghost use Rattle.machine.specs.Said.{out};
+ghost use Rattle.rules.specs.Rules.{poke};
+ghost use Rattle.machine.specs.Said.{_&_, Does, IsRegs, Journal, Regs};
 
 pub fn poke_reg(regs: &mut [u8], journal: &mut [u32], m: Now, at: usize, b: u8) -> Now
-    requires { ⌜ length (now regs) ≡ 8 ⌝ }
-    ensures { λ r. ⌜ ((i p v : List ℕ) → out p v (now (regs .exit)) (now (journal .exit)) r ≡ after i (out p v (now (regs .entry)) (now (journal .entry)) m) (poke register at b)) ⌝ }
+    requires { ⌜ IsRegs regs ⌝ }
+    ensures { λ r. ⌜ Does (poke register at b) (Regs regs & Journal journal) m r ⌝ }
 {
     let used = m.used;
     if m.answer != 0 {
         return m;
     }
-    if 8 <= at {
+    if cells::REGISTERS <= at {
         return Now {
             pc: m.pc,
             used,
-            answer: 13,
+            answer: answers::OFF_REGISTER,
             byte: 0,
             word: 0,
         };
@@ -29,7 +27,7 @@ pub fn poke_reg(regs: &mut [u8], journal: &mut [u32], m: Now, at: usize, b: u8) 
         return Now {
             pc: m.pc,
             used,
-            answer: 10,
+            answer: answers::NO_ROOM,
             byte: 0,
             word: 0,
         };

@@ -1,11 +1,9 @@
 // The state, a value given, a jump and a need.
 ghost use mathlib.Core.Path.{_≡_};
-ghost use mathlib.Core.List.{List};
-ghost use Prim.Native.Nat.{ℕ};
 ghost use Rattle.rules.specs.Answers.{Why, number};
 ghost use Rattle.rules.specs.Rules;
-ghost use Rattle.rules.specs.Rules.{after, valued, give, goto};
-ghost use Rattle.machine.specs.Said.{out};
+ghost use Rattle.rules.specs.Rules.{give, goto};
+ghost use Rattle.machine.specs.Said.{Does, Gives, Nothing};
 
 // pc, the used words, the answer so far, and the byte or the word that was read last.
 pub struct Now {
@@ -17,7 +15,7 @@ pub struct Now {
 }
 
 pub fn give_byte(m: Now, b: u8) -> Now
-    ensures { λ r. ⌜ ((i p v g j : List ℕ) → valued (r .byte) (out p v g j r) ≡ after i (out p v g j m) (give b)) ⌝ }
+    ensures { λ r. ⌜ Gives (r .byte) (give b) Nothing m r ⌝ }
 {
     Now {
         pc: m.pc,
@@ -30,7 +28,7 @@ pub fn give_byte(m: Now, b: u8) -> Now
 
 // Also of a machine that has refused the word is known: a caller may rely on its bound.
 pub fn give_word(m: Now, w: u16) -> Now
-    ensures { λ r. ⌜ (r .word ≡ w) × ((i p v g j : List ℕ) → valued (r .word) (out p v g j r) ≡ after i (out p v g j m) (give w)) ⌝ }
+    ensures { λ r. ⌜ (r .word ≡ w) × Gives (r .word) (give w) Nothing m r ⌝ }
 {
     Now {
         pc: m.pc,
@@ -42,7 +40,7 @@ pub fn give_word(m: Now, w: u16) -> Now
 }
 
 pub fn jump(m: Now, a: u16) -> Now
-    ensures { λ r. ⌜ ((i p v g j : List ℕ) → out p v g j r ≡ after i (out p v g j m) (goto a)) ⌝ }
+    ensures { λ r. ⌜ Does (goto a) Nothing m r ⌝ }
 {
     if m.answer != 0 {
         return m;
@@ -58,7 +56,7 @@ pub fn jump(m: Now, a: u16) -> Now
 
 // The refusal `why`, unless a test holds.
 pub fn need(m: Now, holds: bool, why: u8) -> Now
-    ensures { λ r. ⌜ ((w : Why) → number w ≡ why → (i p v g j : List ℕ) → out p v g j r ≡ after i (out p v g j m) (Rules.need holds w)) ⌝ }
+    ensures { λ r. ⌜ ((w : Why) → number w ≡ why → Does (Rules.need holds w) Nothing m r) ⌝ }
 {
     if m.answer != 0 {
         return m;

@@ -1,27 +1,26 @@
 // VDP RAM: loads and journalled stores, of a byte and of a word. A store tests its range before its room.
+use crate::answers;
+use crate::cells;
 use crate::state;
 use crate::state::Now;
-ghost use mathlib.Core.Path.{_≡_};
-ghost use mathlib.Core.List.{List};
-ghost use Prim.Native.Nat.{ℕ, _<_, _^_};
-ghost use lib.ListN.{length};
+ghost use Prim.Native.Nat.{_<_, _^_};
 ghost use Rattle.rules.specs.Machine.{vdp};
-ghost use Rattle.rules.specs.Rules.{after, valued, peek, peekWord, poke};
+ghost use Rattle.rules.specs.Rules.{peek, peekWord, poke};
 ghost use Rattle.rules.specs.Operands.{pokeWord};
-ghost use Rattle.machine.specs.Said.{out};
+ghost use Rattle.machine.specs.Said.{_&_, Does, Gives, IsVram, Journal, Vram};
 
 pub fn peek_vdp(vram: &[u8], m: Now, at: usize) -> Now
-    requires { ⌜ length (now vram) ≡ 16384 ⌝ }
-    ensures { λ r. ⌜ ((i p g j : List ℕ) → valued (r .byte) (out p (now (vram .entry)) g j r) ≡ after i (out p (now (vram .entry)) g j m) (peek vdp at)) ⌝ }
+    requires { ⌜ IsVram vram ⌝ }
+    ensures { λ r. ⌜ Gives (r .byte) (peek vdp at) (Vram vram) m r ⌝ }
 {
     if m.answer != 0 {
         return m;
     }
-    if 16384 <= at {
+    if cells::VDP_REACH <= at {
         return Now {
             pc: m.pc,
             used: m.used,
-            answer: 5,
+            answer: answers::OFF_VDP,
             byte: 0,
             word: 0,
         };
@@ -36,18 +35,18 @@ pub fn peek_vdp(vram: &[u8], m: Now, at: usize) -> Now
 }
 
 pub fn poke_vdp(vram: &mut [u8], journal: &mut [u32], m: Now, at: usize, b: u8) -> Now
-    requires { ⌜ length (now vram) ≡ 16384 ⌝ }
-    ensures { λ r. ⌜ ((i p g : List ℕ) → out p (now (vram .exit)) g (now (journal .exit)) r ≡ after i (out p (now (vram .entry)) g (now (journal .entry)) m) (poke vdp at b)) ⌝ }
+    requires { ⌜ IsVram vram ⌝ }
+    ensures { λ r. ⌜ Does (poke vdp at b) (Vram vram & Journal journal) m r ⌝ }
 {
     let used = m.used;
     if m.answer != 0 {
         return m;
     }
-    if 16384 <= at {
+    if cells::VDP_REACH <= at {
         return Now {
             pc: m.pc,
             used,
-            answer: 5,
+            answer: answers::OFF_VDP,
             byte: 0,
             word: 0,
         };
@@ -56,7 +55,7 @@ pub fn poke_vdp(vram: &mut [u8], journal: &mut [u32], m: Now, at: usize, b: u8) 
         return Now {
             pc: m.pc,
             used,
-            answer: 10,
+            answer: answers::NO_ROOM,
             byte: 0,
             word: 0,
         };
@@ -76,8 +75,8 @@ pub fn poke_vdp(vram: &mut [u8], journal: &mut [u32], m: Now, at: usize, b: u8) 
 }
 
 pub fn peek_vdp_word(vram: &[u8], m: Now, at: usize) -> Now
-    requires { ⌜ (length (now vram) ≡ 16384) × (at < 2 ^ 32) ⌝ }
-    ensures { λ r. ⌜ ((i p g j : List ℕ) → valued (r .word) (out p (now (vram .entry)) g j r) ≡ after i (out p (now (vram .entry)) g j m) (peekWord vdp at)) ⌝ }
+    requires { ⌜ IsVram vram × (at < 2 ^ 32) ⌝ }
+    ensures { λ r. ⌜ Gives (r .word) (peekWord vdp at) (Vram vram) m r ⌝ }
 {
     let high = peek_vdp(vram, m, at);
     let beyond = at + 1;
@@ -87,8 +86,8 @@ pub fn peek_vdp_word(vram: &[u8], m: Now, at: usize) -> Now
 
 // High byte first, each byte a store of its own.
 pub fn poke_vdp_word(vram: &mut [u8], journal: &mut [u32], m: Now, at: usize, w: u16) -> Now
-    requires { ⌜ (length (now vram) ≡ 16384) × (at < 2 ^ 32) ⌝ }
-    ensures { λ r. ⌜ ((i p g : List ℕ) → out p (now (vram .exit)) g (now (journal .exit)) r ≡ after i (out p (now (vram .entry)) g (now (journal .entry)) m) (pokeWord vdp at w)) ⌝ }
+    requires { ⌜ IsVram vram × (at < 2 ^ 32) ⌝ }
+    ensures { λ r. ⌜ Does (pokeWord vdp at w) (Vram vram & Journal journal) m r ⌝ }
 {
     let high = number::words::high_of(w);
     let low = number::words::low_of(w);

@@ -2,6 +2,7 @@
 use arith::effects::One;
 use arith::effects::Two;
 use flow::status::Test;
+use machine::answers;
 ghost use mathlib.Core.Path.{_≡_};
 ghost use Prim.Native.Nat.{_≤_};
 ghost use Rattle.rules.specs.Machine.{pick};
@@ -38,12 +39,6 @@ pub enum Class {
     Does(Task),
 }
 
-const ENDED: u8 = 1;
-
-const NO_SUCH: u8 = 2;
-
-const NEEDS_HOST: u8 = 3;
-
 // >00 to >0F.
 fn low_class(op: u8) -> Class
     ensures { λ r. ⌜ meant r ≡ said (row op lowRows) ⌝ }
@@ -52,7 +47,7 @@ fn low_class(op: u8) -> Class
         0 => Class::Does(Task::Rtn),
         1 => Class::Does(Task::Rtnc),
         2 => Class::Does(Task::Rand),
-        3 => Class::Stops(NEEDS_HOST),
+        3 => Class::Stops(answers::NEEDS_HOST),
         4 => Class::Does(Task::Back),
         5 => Class::Does(Task::Long),
         6 => Class::Does(Task::Call),
@@ -60,12 +55,12 @@ fn low_class(op: u8) -> Class
         8 => Class::Does(Task::Fmt),
         9 => Class::Does(Task::Test(Test::High)),
         10 => Class::Does(Task::Test(Test::Greater)),
-        11 => Class::Stops(ENDED),
+        11 => Class::Stops(answers::ENDED),
         12 => Class::Does(Task::Test(Test::Carry)),
         13 => Class::Does(Task::Test(Test::Overflow)),
-        14 => Class::Stops(NO_SUCH),
-        15 => Class::Stops(NEEDS_HOST),
-        _ => Class::Stops(NO_SUCH),
+        14 => Class::Stops(answers::NO_SUCH),
+        15 => Class::Stops(answers::NEEDS_HOST),
+        _ => Class::Stops(answers::NO_SUCH),
     }
 }
 
@@ -75,7 +70,7 @@ fn move_class(op: u8) -> Class
 {
     if number::bits::bit(2, op) {
         if number::bits::bit(1, op) {
-            return Class::Stops(NO_SUCH);
+            return Class::Stops(answers::NO_SUCH);
         }
         return Class::Does(Task::Move(op % 16));
     }
@@ -99,7 +94,7 @@ fn one_class(row: u8, wide: bool) -> Class
         9 => Class::Does(Task::One(One::Dec, wide)),
         10 => Class::Does(Task::One(One::Inct, wide)),
         11 => Class::Does(Task::One(One::Dect, wide)),
-        _ => Class::Stops(NO_SUCH),
+        _ => Class::Stops(answers::NO_SUCH),
     }
 }
 
@@ -108,7 +103,7 @@ fn ex_class(imm: bool, wide: bool) -> Class
     ensures { λ r. ⌜ meant r ≡ said (pick imm (stops noSuch) (does (ex wide))) ⌝ }
 {
     if imm {
-        return Class::Stops(NO_SUCH);
+        return Class::Stops(answers::NO_SUCH);
     }
     Class::Does(Task::Ex(wide))
 }
@@ -137,7 +132,7 @@ fn two_class(row: u8, imm: bool, wide: bool) -> Class
         16 => Class::Does(Task::Two(Two::Sll, imm, wide)),
         17 => Class::Does(Task::Two(Two::Srl, imm, wide)),
         18 => Class::Does(Task::Two(Two::Src, imm, wide)),
-        _ => Class::Stops(NO_SUCH),
+        _ => Class::Stops(answers::NO_SUCH),
     }
 }
 
@@ -155,9 +150,9 @@ fn upper_class(op: u8) -> Class
         return two_class(row, number::bits::bit(1, op), number::bits::bit(0, op));
     }
     if op < 0xF8 {
-        return Class::Stops(NEEDS_HOST);
+        return Class::Stops(answers::NEEDS_HOST);
     }
-    Class::Stops(NO_SUCH)
+    Class::Stops(answers::NO_SUCH)
 }
 
 // The upper half first, which has most of the instructions; then by ranges, in the order of the rule's own tests.
@@ -171,7 +166,7 @@ pub fn class_of(op: u8) -> Class
         return low_class(op);
     }
     if op < 0x30 {
-        return Class::Stops(NO_SUCH);
+        return Class::Stops(answers::NO_SUCH);
     }
     if op < 0x40 {
         return move_class(op);

@@ -1,11 +1,8 @@
 // The instruction of a task.
 use crate::class::Task;
 use machine::state::Now;
-ghost use mathlib.Core.Path.{_≡_};
-ghost use lib.ListN.{length};
-ghost use Rattle.rules.specs.Rules.{after};
 ghost use Rattle.rules.specs.Tasks.{ruleOf};
-ghost use Rattle.machine.specs.Said.{out};
+ghost use Rattle.machine.specs.Said.{_&_, Does, Image, IsPad, IsRegs, IsVram, Journal, Pad, Regs, Vram};
 ghost use Rattle.opcode.specs.Classes.{taskOf};
 
 pub fn perform(
@@ -17,17 +14,17 @@ pub fn perform(
     m: Now,
     task: Task,
 ) -> Now
-    requires { ⌜ (length (now pad) ≡ 256) × (length (now vram) ≡ 16384) × (length (now regs) ≡ 8) ⌝ }
-    ensures { λ r. ⌜ out (now (pad .exit)) (now (vram .exit)) (now (regs .exit)) (now (journal .exit)) r ≡ after (now (image .entry)) (out (now (pad .entry)) (now (vram .entry)) (now (regs .entry)) (now (journal .entry)) m) (ruleOf (taskOf task)) ⌝ }
+    requires { ⌜ IsPad pad × IsVram vram × IsRegs regs ⌝ }
+    ensures { λ r. ⌜ Does (ruleOf (taskOf task)) (Image image & Pad pad & Vram vram & Regs regs & Journal journal) m r ⌝ }
 {
     match task {
         Task::Rtn => flow::branches::rtn(pad, journal, m),
         Task::Rtnc => flow::branches::rtnc(pad, journal, m),
         Task::Rand => flow::random::rand(image, pad, journal, m),
-        Task::Back => flow::screen::back(image, regs, journal, m),
+        Task::Back => block::screen::back(image, regs, journal, m),
         Task::Long => flow::branches::long(image, pad, journal, m),
         Task::Call => flow::branches::call(image, pad, journal, m),
-        Task::All => flow::screen::all(image, pad, vram, journal, m),
+        Task::All => block::screen::all(image, pad, vram, journal, m),
         Task::Fmt => format::codes::format(image, pad, vram, journal, m),
         Task::Test(t) => flow::status::test_status(pad, journal, m, t),
         Task::Move(bits) => block::whole::move_block(image, pad, vram, regs, journal, m, bits),

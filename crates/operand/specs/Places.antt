@@ -1,11 +1,9 @@
 -- What the code's places and operands say, in the words of the rules.
-use mathlib.Core.List.{List}
-use Prim.Native.Nat.{ℕ}
 use Rattle.rules.specs.Machine.{cpu, vdp}
-use Rattle.rules.specs.Rules.{Out, valued}
+use Rattle.rules.specs.Rules.{Rule}
 use Rattle.rules.specs.Operands.{Cell, cell}
 use Rattle.machine.specs.declared.state.Now.{Now}
-use Rattle.machine.specs.Said.{out}
+use Rattle.machine.specs.Said.{Parts, Gives}
 use Rattle.operand.specs.declared.places.Place.{Place}
 use Rattle.operand.specs.declared.places.Place.the-variants.{Cpu, Vdp}
 use Rattle.operand.specs.declared.places.Operand.{Operand}
@@ -26,6 +24,6 @@ abbrev pub nowOf : Operand → Now
 nowOf (At l) = record { pc = l .pc; used = l .used; answer = 0; byte = 0; word = 0 }
 nowOf (Refused f) = record { pc = 0; used = f .used; answer = f .answer; byte = 0; word = 0 }
 
--- an operand beside pad, VDP RAM, registers and journal, as what a rule that gives a cell leaves
-unfoldable pub located : List ℕ → List ℕ → List ℕ → List ℕ → Operand → Out Cell
-located p v g j o = valued (cellOf (placeOf o)) (out p v g j (nowOf o))
+-- an operand that a function returns, in its contract
+abbrev pub Locates : Rule Cell → (Parts → Parts) → Now → Operand → Type 0
+Locates r f m o = Gives (cellOf (placeOf o)) r f m (nowOf o)

@@ -4,31 +4,30 @@ use crate::places::Located;
 use crate::places::Operand;
 use crate::places::Place;
 use crate::places::Refusal;
+use machine::answers;
+use machine::cells;
 use machine::grom;
 use machine::pad as cpu;
 use machine::state;
 use machine::state::Now;
 ghost use mathlib.Core.Path.{_≡_};
-ghost use mathlib.Core.List.{List};
-ghost use Prim.Native.Nat.{ℕ, _+_, _-_, _≤_};
-ghost use lib.ListN.{length};
-ghost use Rattle.rules.specs.Rules.{after, valued};
+ghost use Prim.Native.Nat.{_+_, _-_, _≤_};
 ghost use Rattle.rules.specs.Operands;
 ghost use Rattle.rules.specs.Operands.{onDataStack, operandOf};
-ghost use Rattle.machine.specs.Said.{out};
-ghost use Rattle.operand.specs.Places.{cellOf, placeOf, located};
+ghost use Rattle.machine.specs.Said.{_&_, Gives, Image, IsPad, Journal, Nothing, Pad};
+ghost use Rattle.operand.specs.Places.{cellOf, placeOf, Locates};
 
 // ---- the offset
 
 fn short_offset(image: &[u8], m: Now, aaaa: u8) -> Now
-    ensures { λ r. ⌜ ((p v g j : List ℕ) → valued (r .word) (out p v g j r) ≡ after (now (image .entry)) (out p v g j m) (Operands.shortOffset aaaa)) ⌝ }
+    ensures { λ r. ⌜ Gives (r .word) (Operands.shortOffset aaaa) (Image image) m r ⌝ }
 {
     let low = grom::next_byte(image, m);
     state::give_word(low, number::words::word_of(aaaa, low.byte))
 }
 
 fn offset(image: &[u8], m: Now, aaaa: u8) -> Now
-    ensures { λ r. ⌜ ((p v g j : List ℕ) → valued (r .word) (out p v g j r) ≡ after (now (image .entry)) (out p v g j m) (Operands.offset aaaa)) ⌝ }
+    ensures { λ r. ⌜ Gives (r .word) (Operands.offset aaaa) (Image image) m r ⌝ }
 {
     if aaaa == 15 {
         return grom::next_word(image, m);
@@ -37,8 +36,8 @@ fn offset(image: &[u8], m: Now, aaaa: u8) -> Now
 }
 
 fn add_index(image: &[u8], pad: &[u8], m: Now, a: u16) -> Now
-    requires { ⌜ length (now pad) ≡ 256 ⌝ }
-    ensures { λ r. ⌜ ((v g j : List ℕ) → valued (r .word) (out (now (pad .entry)) v g j r) ≡ after (now (image .entry)) (out (now (pad .entry)) v g j m) (Operands.addIndex a)) ⌝ }
+    requires { ⌜ IsPad pad ⌝ }
+    ensures { λ r. ⌜ Gives (r .word) (Operands.addIndex a) (Image image & Pad pad) m r ⌝ }
 {
     let x = grom::next_byte(image, m);
     let at = x.byte as usize;
@@ -48,8 +47,8 @@ fn add_index(image: &[u8], pad: &[u8], m: Now, a: u16) -> Now
 
 // With X, a pad word is added, before any indirection.
 pub fn indexed(image: &[u8], pad: &[u8], m: Now, x: bool, a: u16) -> Now
-    requires { ⌜ length (now pad) ≡ 256 ⌝ }
-    ensures { λ r. ⌜ ((v g j : List ℕ) → valued (r .word) (out (now (pad .entry)) v g j r) ≡ after (now (image .entry)) (out (now (pad .entry)) v g j m) (Operands.indexed x a)) ⌝ }
+    requires { ⌜ IsPad pad ⌝ }
+    ensures { λ r. ⌜ Gives (r .word) (Operands.indexed x a) (Image image & Pad pad) m r ⌝ }
 {
     if x {
         return add_index(image, pad, m, a);
@@ -66,8 +65,8 @@ pub struct Spot {
 }
 
 fn through_word(pad: &[u8], m: Now, a: u16) -> Spot
-    requires { ⌜ length (now pad) ≡ 256 ⌝ }
-    ensures { λ r. ⌜ ((i v g j : List ℕ) → valued (cellOf (r .place)) (out (now (pad .entry)) v g j (r .now)) ≡ after i (out (now (pad .entry)) v g j m) (Operands.throughWord a)) ⌝ }
+    requires { ⌜ IsPad pad ⌝ }
+    ensures { λ r. ⌜ Gives (cellOf (r .place)) (Operands.throughWord a) (Pad pad) m (r .now) ⌝ }
 {
     let at = a as usize;
     let w = cpu::peek_pad_word(pad, m, at);
@@ -78,8 +77,8 @@ fn through_word(pad: &[u8], m: Now, a: u16) -> Spot
 }
 
 fn through_byte(pad: &[u8], m: Now, a: u16) -> Spot
-    requires { ⌜ length (now pad) ≡ 256 ⌝ }
-    ensures { λ r. ⌜ ((i v g j : List ℕ) → valued (cellOf (r .place)) (out (now (pad .entry)) v g j (r .now)) ≡ after i (out (now (pad .entry)) v g j m) (Operands.throughByte a)) ⌝ }
+    requires { ⌜ IsPad pad ⌝ }
+    ensures { λ r. ⌜ Gives (cellOf (r .place)) (Operands.throughByte a) (Pad pad) m (r .now) ⌝ }
 {
     let at = a as usize;
     let b = cpu::peek_pad(pad, m, at);
@@ -112,14 +111,14 @@ fn down(b: u8) -> u8
 
 // A pop off the data stack: the pointer's test, its store, and the cell.
 fn pop_cell(pad: &mut [u8], journal: &mut [u32], m: Now) -> Spot
-    requires { ⌜ length (now pad) ≡ 256 ⌝ }
-    ensures { λ r. ⌜ ((i v g : List ℕ) → valued (cellOf (r .place)) (out (now (pad .exit)) v g (now (journal .exit)) (r .now)) ≡ after i (out (now (pad .entry)) v g (now (journal .entry)) m) Operands.popCell) ⌝ }
+    requires { ⌜ IsPad pad ⌝ }
+    ensures { λ r. ⌜ Gives (cellOf (r .place)) Operands.popCell (Pad pad & Journal journal) m (r .now) ⌝ }
 {
-    let p = cpu::peek_pad(pad, m, 0x72);
+    let p = cpu::peek_pad(pad, m, cells::DATA_POINTER);
     let top = p.byte as u16;
-    let tested = state::need(p, on_data_stack(top), 7);
+    let tested = state::need(p, on_data_stack(top), answers::OFF_STACK);
     let below = down(p.byte);
-    let lowered = cpu::poke_pad(pad, journal, tested, 0x72, below);
+    let lowered = cpu::poke_pad(pad, journal, tested, cells::DATA_POINTER, below);
     Spot {
         now: lowered,
         place: Place::Cpu(top),
@@ -127,8 +126,8 @@ fn pop_cell(pad: &mut [u8], journal: &mut [u32], m: Now) -> Spot
 }
 
 fn through_pad(pad: &mut [u8], journal: &mut [u32], m: Now, a: u16) -> Spot
-    requires { ⌜ length (now pad) ≡ 256 ⌝ }
-    ensures { λ r. ⌜ ((i v g : List ℕ) → valued (cellOf (r .place)) (out (now (pad .exit)) v g (now (journal .exit)) (r .now)) ≡ after i (out (now (pad .entry)) v g (now (journal .entry)) m) (Operands.throughPad a)) ⌝ }
+    requires { ⌜ IsPad pad ⌝ }
+    ensures { λ r. ⌜ Gives (cellOf (r .place)) (Operands.throughPad a) (Pad pad & Journal journal) m (r .now) ⌝ }
 {
     if a == 0x7C {
         return pop_cell(pad, journal, m);
@@ -138,8 +137,8 @@ fn through_pad(pad: &mut [u8], journal: &mut [u32], m: Now, a: u16) -> Spot
 
 // By the bits V and I.
 fn named(pad: &mut [u8], journal: &mut [u32], m: Now, v: bool, i: bool, a: u16) -> Spot
-    requires { ⌜ length (now pad) ≡ 256 ⌝ }
-    ensures { λ r. ⌜ ((im vr g : List ℕ) → valued (cellOf (r .place)) (out (now (pad .exit)) vr g (now (journal .exit)) (r .now)) ≡ after im (out (now (pad .entry)) vr g (now (journal .entry)) m) (Operands.named v i a)) ⌝ }
+    requires { ⌜ IsPad pad ⌝ }
+    ensures { λ r. ⌜ Gives (cellOf (r .place)) (Operands.named v i a) (Pad pad & Journal journal) m (r .now) ⌝ }
 {
     if v {
         if i {
@@ -161,8 +160,8 @@ fn named(pad: &mut [u8], journal: &mut [u32], m: Now, v: bool, i: bool, a: u16) 
 
 // An operand of more than one byte, by its first: 1XVIaaaa.
 fn far_cell(image: &[u8], pad: &mut [u8], journal: &mut [u32], m: Now, b: u8) -> Spot
-    requires { ⌜ length (now pad) ≡ 256 ⌝ }
-    ensures { λ r. ⌜ ((v g : List ℕ) → valued (cellOf (r .place)) (out (now (pad .exit)) v g (now (journal .exit)) (r .now)) ≡ after (now (image .entry)) (out (now (pad .entry)) v g (now (journal .entry)) m) (Operands.farCell b)) ⌝ }
+    requires { ⌜ IsPad pad ⌝ }
+    ensures { λ r. ⌜ Gives (cellOf (r .place)) (Operands.farCell b) (Image image & Pad pad & Journal journal) m (r .now) ⌝ }
 {
     let a = offset(image, m, number::bits::nibble(b));
     let e = indexed(image, pad, a, number::bits::bit(6, b), a.word);
@@ -177,8 +176,8 @@ fn far_cell(image: &[u8], pad: &mut [u8], journal: &mut [u32], m: Now, b: u8) ->
 }
 
 fn any_cell(image: &[u8], pad: &mut [u8], journal: &mut [u32], m: Now, b: u8) -> Spot
-    requires { ⌜ length (now pad) ≡ 256 ⌝ }
-    ensures { λ r. ⌜ ((v g : List ℕ) → valued (cellOf (r .place)) (out (now (pad .exit)) v g (now (journal .exit)) (r .now)) ≡ after (now (image .entry)) (out (now (pad .entry)) v g (now (journal .entry)) m) (Operands.anyCell b)) ⌝ }
+    requires { ⌜ IsPad pad ⌝ }
+    ensures { λ r. ⌜ Gives (cellOf (r .place)) (Operands.anyCell b) (Image image & Pad pad & Journal journal) m (r .now) ⌝ }
 {
     if b < 0x80 {
         let near = b as u16;
@@ -195,7 +194,7 @@ fn any_cell(image: &[u8], pad: &mut [u8], journal: &mut [u32], m: Now, b: u8) ->
 // A place that n bytes from there on are in range of, or a refusal.
 fn answered(m: Now, place: Place, n: u32) -> Operand
     requires { ⌜ n ≤ 2 ⌝ }
-    ensures { λ r. ⌜ (cellOf (placeOf r) .at + n ≤ 16384) × ((i p v g j : List ℕ) → located p v g j r ≡ after i (out p v g j m) (Operands.reached n (cellOf place))) ⌝ }
+    ensures { λ r. ⌜ (cellOf (placeOf r) .at + n ≤ 16384) × Locates (Operands.reached n (cellOf place)) Nothing m r ⌝ }
 {
     if m.answer != 0 {
         return Operand::Refused(Refusal {
@@ -218,8 +217,8 @@ fn answered(m: Now, place: Place, n: u32) -> Operand
 
 // An operand of which n bytes must be in range: 1 for a byte or a place, 2 for a word.
 pub fn operand(image: &[u8], pad: &mut [u8], journal: &mut [u32], m: Now, n: u32) -> Operand
-    requires { ⌜ (length (now pad) ≡ 256) × (n ≤ 2) ⌝ }
-    ensures { λ r. ⌜ (cellOf (placeOf r) .at + n ≤ 16384) × ((v g : List ℕ) → located (now (pad .exit)) v g (now (journal .exit)) r ≡ after (now (image .entry)) (out (now (pad .entry)) v g (now (journal .entry)) m) (operandOf n)) ⌝ }
+    requires { ⌜ IsPad pad × (n ≤ 2) ⌝ }
+    ensures { λ r. ⌜ (cellOf (placeOf r) .at + n ≤ 16384) × Locates (operandOf n) (Image image & Pad pad & Journal journal) m r ⌝ }
 {
     let first = grom::next_byte(image, m);
     let cell = any_cell(image, pad, journal, first, first.byte);

@@ -1,8 +1,8 @@
 // A CPU cell, a VDP cell or a refusal.
+use machine::answers;
 use machine::state::Now;
 ghost use mathlib.Core.Path.{_≡_};
-ghost use mathlib.Core.List.{List};
-ghost use Prim.Native.Nat.{ℕ, _+_, _≤_, _<_};
+ghost use Prim.Native.Nat.{_+_, _≤_, _<_};
 ghost use Rattle.rules.specs.Answers;
 ghost use Rattle.rules.specs.Answers.{number};
 ghost use Rattle.rules.specs.Operands.{inReach, past, isBuffer};
@@ -85,8 +85,8 @@ pub fn outside(place: Place) -> u8
     ensures { λ r. ⌜ r ≡ number (Answers.outside (cellOf place .kind)) ⌝ }
 {
     match place {
-        Place::Cpu(_) => 4,
-        Place::Vdp(_) => 5,
+        Place::Cpu(_) => answers::OFF_CPU,
+        Place::Vdp(_) => answers::OFF_VDP,
     }
 }
 

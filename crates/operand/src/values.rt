@@ -9,14 +9,12 @@ use machine::state;
 use machine::state::Now;
 use machine::vdp;
 ghost use mathlib.Core.Path.{_≡_};
-ghost use mathlib.Core.List.{List};
-ghost use Prim.Native.Nat.{ℕ, _-_, _≤_, _<_};
-ghost use lib.ListN.{length};
-ghost use Rattle.rules.specs.Rules.{after, valued, peek, peekWord, poke};
+ghost use Prim.Native.Nat.{_-_, _≤_, _<_};
+ghost use Rattle.rules.specs.Rules.{give, peek, peekWord, poke};
 ghost use Rattle.rules.specs.Operands;
 ghost use Rattle.rules.specs.Operands.{byteCount, past, isBuffer, pokeWord};
 ghost use Rattle.rules.specs.Arithmetic.{half, span};
-ghost use Rattle.machine.specs.Said.{out};
+ghost use Rattle.machine.specs.Said.{_&_, Does, Gives, Image, IsPad, IsVram, Journal, Nothing, Pad, Vram};
 ghost use Rattle.operand.specs.Places.{cellOf};
 
 // How many bytes a width has.
@@ -31,7 +29,7 @@ pub fn byte_count(wide: bool) -> u32
 
 // A byte that was read, as the value of a byte's width.
 fn widened(m: Now) -> Now
-    ensures { λ r. ⌜ (r .word < 256) × ((p v g j : List ℕ) → valued (r .word) (out p v g j r) ≡ valued (m .byte) (out p v g j m)) ⌝ }
+    ensures { λ r. ⌜ (r .word < 256) × Gives (r .word) (give (m .byte)) Nothing m r ⌝ }
 {
     let w = m.byte as u16;
     state::give_word(m, w)
@@ -40,8 +38,8 @@ fn widened(m: Now) -> Now
 // ---- reading
 
 fn byte_at(pad: &[u8], vram: &[u8], m: Now, place: Place) -> Now
-    requires { ⌜ (length (now pad) ≡ 256) × (length (now vram) ≡ 16384) ⌝ }
-    ensures { λ r. ⌜ ((i g j : List ℕ) → valued (r .byte) (out (now (pad .entry)) (now (vram .entry)) g j r) ≡ after i (out (now (pad .entry)) (now (vram .entry)) g j m) (peek (cellOf place .kind) (cellOf place .at))) ⌝ }
+    requires { ⌜ IsPad pad × IsVram vram ⌝ }
+    ensures { λ r. ⌜ Gives (r .byte) (peek (cellOf place .kind) (cellOf place .at)) (Pad pad & Vram vram) m r ⌝ }
 {
     match place {
         Place::Cpu(a) => {
@@ -56,8 +54,8 @@ fn byte_at(pad: &[u8], vram: &[u8], m: Now, place: Place) -> Now
 }
 
 fn word_at(pad: &[u8], vram: &[u8], m: Now, place: Place) -> Now
-    requires { ⌜ (length (now pad) ≡ 256) × (length (now vram) ≡ 16384) ⌝ }
-    ensures { λ r. ⌜ ((i g j : List ℕ) → valued (r .word) (out (now (pad .entry)) (now (vram .entry)) g j r) ≡ after i (out (now (pad .entry)) (now (vram .entry)) g j m) (peekWord (cellOf place .kind) (cellOf place .at))) ⌝ }
+    requires { ⌜ IsPad pad × IsVram vram ⌝ }
+    ensures { λ r. ⌜ Gives (r .word) (peekWord (cellOf place .kind) (cellOf place .at)) (Pad pad & Vram vram) m r ⌝ }
 {
     match place {
         Place::Cpu(a) => {
@@ -73,8 +71,8 @@ fn word_at(pad: &[u8], vram: &[u8], m: Now, place: Place) -> Now
 
 // What stands at a place, as it stands.
 pub fn standing(pad: &[u8], vram: &[u8], m: Now, wide: bool, place: Place) -> Now
-    requires { ⌜ (length (now pad) ≡ 256) × (length (now vram) ≡ 16384) ⌝ }
-    ensures { λ r. ⌜ (r .word < span (half wide)) × ((i g j : List ℕ) → valued (r .word) (out (now (pad .entry)) (now (vram .entry)) g j r) ≡ after i (out (now (pad .entry)) (now (vram .entry)) g j m) (Operands.standing wide (cellOf place))) ⌝ }
+    requires { ⌜ IsPad pad × IsVram vram ⌝ }
+    ensures { λ r. ⌜ (r .word < span (half wide)) × Gives (r .word) (Operands.standing wide (cellOf place)) (Pad pad & Vram vram) m r ⌝ }
 {
     if wide {
         return word_at(pad, vram, m, place);
@@ -85,8 +83,8 @@ pub fn standing(pad: &[u8], vram: &[u8], m: Now, wide: bool, place: Place) -> No
 
 // A read whose first byte is the character buffer first stores the screen byte there.
 fn refresh(pad: &mut [u8], vram: &[u8], journal: &mut [u32], m: Now, place: Place) -> Now
-    requires { ⌜ (length (now pad) ≡ 256) × (length (now vram) ≡ 16384) ⌝ }
-    ensures { λ r. ⌜ ((i g : List ℕ) → out (now (pad .exit)) (now (vram .entry)) g (now (journal .exit)) r ≡ after i (out (now (pad .entry)) (now (vram .entry)) g (now (journal .entry)) m) (Operands.refresh (cellOf place))) ⌝ }
+    requires { ⌜ IsPad pad × IsVram vram ⌝ }
+    ensures { λ r. ⌜ Does (Operands.refresh (cellOf place)) (Pad pad & Vram vram & Journal journal) m r ⌝ }
 {
     if places::is_buffer(place) {
         return screen::load_buffer(pad, vram, journal, m);
@@ -103,8 +101,8 @@ pub fn value(
     wide: bool,
     place: Place,
 ) -> Now
-    requires { ⌜ (length (now pad) ≡ 256) × (length (now vram) ≡ 16384) ⌝ }
-    ensures { λ r. ⌜ (r .word < span (half wide)) × ((i g : List ℕ) → valued (r .word) (out (now (pad .exit)) (now (vram .entry)) g (now (journal .exit)) r) ≡ after i (out (now (pad .entry)) (now (vram .entry)) g (now (journal .entry)) m) (Operands.value wide (cellOf place))) ⌝ }
+    requires { ⌜ IsPad pad × IsVram vram ⌝ }
+    ensures { λ r. ⌜ (r .word < span (half wide)) × Gives (r .word) (Operands.value wide (cellOf place)) (Pad pad & Vram vram & Journal journal) m r ⌝ }
 {
     let fresh = refresh(pad, vram, journal, m, place);
     standing(pad, vram, fresh, wide, place)
@@ -120,8 +118,8 @@ fn store_byte(
     place: Place,
     b: u8,
 ) -> Now
-    requires { ⌜ (length (now pad) ≡ 256) × (length (now vram) ≡ 16384) ⌝ }
-    ensures { λ r. ⌜ ((i g : List ℕ) → out (now (pad .exit)) (now (vram .exit)) g (now (journal .exit)) r ≡ after i (out (now (pad .entry)) (now (vram .entry)) g (now (journal .entry)) m) (poke (cellOf place .kind) (cellOf place .at) b)) ⌝ }
+    requires { ⌜ IsPad pad × IsVram vram ⌝ }
+    ensures { λ r. ⌜ Does (poke (cellOf place .kind) (cellOf place .at) b) (Pad pad & Vram vram & Journal journal) m r ⌝ }
 {
     match place {
         Place::Cpu(a) => {
@@ -143,8 +141,8 @@ fn store_word(
     place: Place,
     w: u16,
 ) -> Now
-    requires { ⌜ (length (now pad) ≡ 256) × (length (now vram) ≡ 16384) ⌝ }
-    ensures { λ r. ⌜ ((i g : List ℕ) → out (now (pad .exit)) (now (vram .exit)) g (now (journal .exit)) r ≡ after i (out (now (pad .entry)) (now (vram .entry)) g (now (journal .entry)) m) (pokeWord (cellOf place .kind) (cellOf place .at) w)) ⌝ }
+    requires { ⌜ IsPad pad × IsVram vram ⌝ }
+    ensures { λ r. ⌜ Does (pokeWord (cellOf place .kind) (cellOf place .at) w) (Pad pad & Vram vram & Journal journal) m r ⌝ }
 {
     match place {
         Place::Cpu(a) => {
@@ -167,8 +165,8 @@ fn store_value(
     place: Place,
     v: u16,
 ) -> Now
-    requires { ⌜ (length (now pad) ≡ 256) × (length (now vram) ≡ 16384) ⌝ }
-    ensures { λ r. ⌜ ((i g : List ℕ) → out (now (pad .exit)) (now (vram .exit)) g (now (journal .exit)) r ≡ after i (out (now (pad .entry)) (now (vram .entry)) g (now (journal .entry)) m) (Operands.storeValue wide (cellOf place) v)) ⌝ }
+    requires { ⌜ IsPad pad × IsVram vram ⌝ }
+    ensures { λ r. ⌜ Does (Operands.storeValue wide (cellOf place) v) (Pad pad & Vram vram & Journal journal) m r ⌝ }
 {
     if wide {
         return store_word(pad, vram, journal, m, place, v);
@@ -201,8 +199,8 @@ fn echo(
     place: Place,
     b: u8,
 ) -> Now
-    requires { ⌜ (length (now pad) ≡ 256) × (length (now vram) ≡ 16384) ⌝ }
-    ensures { λ r. ⌜ ((i g : List ℕ) → out (now (pad .entry)) (now (vram .exit)) g (now (journal .exit)) r ≡ after i (out (now (pad .entry)) (now (vram .entry)) g (now (journal .entry)) m) (Operands.echo (past (byteCount wide - 1) (cellOf place)) b)) ⌝ }
+    requires { ⌜ IsPad pad × IsVram vram ⌝ }
+    ensures { λ r. ⌜ Does (Operands.echo (past (byteCount wide - 1) (cellOf place)) b) (Pad pad & Vram vram & Journal journal) m r ⌝ }
 {
     if ends_in_buffer(wide, place) {
         return screen::to_screen(pad, vram, journal, m, b);
@@ -220,8 +218,8 @@ pub fn result(
     place: Place,
     v: u16,
 ) -> Now
-    requires { ⌜ (length (now pad) ≡ 256) × (length (now vram) ≡ 16384) ⌝ }
-    ensures { λ r. ⌜ ((i g : List ℕ) → out (now (pad .exit)) (now (vram .exit)) g (now (journal .exit)) r ≡ after i (out (now (pad .entry)) (now (vram .entry)) g (now (journal .entry)) m) (Operands.result wide (cellOf place) v)) ⌝ }
+    requires { ⌜ IsPad pad × IsVram vram ⌝ }
+    ensures { λ r. ⌜ Does (Operands.result wide (cellOf place) v) (Pad pad & Vram vram & Journal journal) m r ⌝ }
 {
     let stored = store_value(pad, vram, journal, m, wide, place, v);
     let low = number::words::low_of(v);
@@ -238,8 +236,8 @@ pub fn operand_value(
     m: Now,
     wide: bool,
 ) -> Now
-    requires { ⌜ (length (now pad) ≡ 256) × (length (now vram) ≡ 16384) ⌝ }
-    ensures { λ r. ⌜ (r .word < span (half wide)) × ((g : List ℕ) → valued (r .word) (out (now (pad .exit)) (now (vram .entry)) g (now (journal .exit)) r) ≡ after (now (image .entry)) (out (now (pad .entry)) (now (vram .entry)) g (now (journal .entry)) m) (Operands.operandValue wide)) ⌝ }
+    requires { ⌜ IsPad pad × IsVram vram ⌝ }
+    ensures { λ r. ⌜ (r .word < span (half wide)) × Gives (r .word) (Operands.operandValue wide) (Image image & Pad pad & Vram vram & Journal journal) m r ⌝ }
 {
     let o = decode::operand(image, pad, journal, m, byte_count(wide));
     let at = places::now_of(o);
@@ -248,7 +246,7 @@ pub fn operand_value(
 
 // The bytes at pc.
 pub fn immediate(image: &[u8], m: Now, wide: bool) -> Now
-    ensures { λ r. ⌜ (r .word < span (half wide)) × ((p v g j : List ℕ) → valued (r .word) (out p v g j r) ≡ after (now (image .entry)) (out p v g j m) (Operands.immediate wide)) ⌝ }
+    ensures { λ r. ⌜ (r .word < span (half wide)) × Gives (r .word) (Operands.immediate wide) (Image image) m r ⌝ }
 {
     if wide {
         return grom::next_word(image, m);
@@ -266,8 +264,8 @@ pub fn source(
     imm: bool,
     wide: bool,
 ) -> Now
-    requires { ⌜ (length (now pad) ≡ 256) × (length (now vram) ≡ 16384) ⌝ }
-    ensures { λ r. ⌜ (r .word < span (half wide)) × ((g : List ℕ) → valued (r .word) (out (now (pad .exit)) (now (vram .entry)) g (now (journal .exit)) r) ≡ after (now (image .entry)) (out (now (pad .entry)) (now (vram .entry)) g (now (journal .entry)) m) (Operands.source imm wide)) ⌝ }
+    requires { ⌜ IsPad pad × IsVram vram ⌝ }
+    ensures { λ r. ⌜ (r .word < span (half wide)) × Gives (r .word) (Operands.source imm wide) (Image image & Pad pad & Vram vram & Journal journal) m r ⌝ }
 {
     if imm {
         return immediate(image, m, wide);

@@ -101,6 +101,21 @@ pub need-unmet : (c : Bool) (why : Why) → c ≡ false → need c why ≡ refus
 unfolding need
 need-unmet c why e = rw e
 
+-- ---- a need, and the rest
+
+-- one that is not met: whatever comes after, nothing is done
+unmet : {A : Type 0} (i : List ℕ) (o : Out (Unit {0})) (why : Why) (r s : Rule A) → after i (after i o (need false why)) r ≡ after i (after i o (need false why)) s
+unfolding after exec need
+unmet i (got a pc m) why r s = refl
+unmet i (stopped n m) why r s = refl
+
+-- the rest may have any number that is the rule's where the test holds
+pub needed : {A : Type 0} (i : List ℕ) (o o₁ : Out (Unit {0})) (o₂ : Out A) (c : Bool) (why : Why) (f : ℕ → Rule A) (a b : ℕ)
+    → o₁ ≡ after i o (need c why) → (c ≡ true → a ≡ b) → o₂ ≡ after i o₁ (f a) → o₂ ≡ after i o (need c why >>= (λ _. f b))
+needed i o o₁ o₂ true why f a b e h k = seq i o o₁ o₂ (need true why) (f b) e (via i o₁ o₂ f a b (h refl) k)
+needed i o o₁ o₂ false why f a b e h k =
+    k ∙ ap (λ (x : Out (Unit {0})). after i x (f a)) e ∙ unmet i o why (f a) (f b) ∙ sym (after-then i o (need false why) (f b))
+
 -- ---- a store keeps a byte of what it is given
 
 pub kept-byte : {A : Type 0} (i : List ℕ) (o : Out A) (k : Kind) (a b c : ℕ) → c ≡ b % 256 → after i o (poke k a c) ≡ after i o (poke k a b)

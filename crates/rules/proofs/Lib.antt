@@ -1,4 +1,5 @@
 pub mod Laws
+pub mod Loops
 pub mod Stores
 pub mod Undo
 pub mod Clear

@@ -1,12 +1,7 @@
 -- Both operands with their values, then each one's value to the other.
 use mathlib.Core.Path.{_∙_}
-use Prim.Native.Nat.{ℕ}
-use Rattle.rules.specs.Rules.{_>>_}
-use Rattle.rules.specs.Operands.{Cell, result}
 use Rattle.rules.specs.Instructions.{exRule}
-use Rattle.rules.proofs.Laws.{seq}
-use Rattle.operand.specs.Places.{cellOf}
-use Rattle.arith.specs.Targets.{target}
+use Rattle.machine.proofs.Chain.{seq, ends}
 use borrow.Author.Needs.{needs}
 use Rattle.arith.proofs.operations.ex.Statement.{statement}
 use Rattle.arith.proofs.operations.ex.Tie as tie
@@ -60,12 +55,8 @@ returns c =
     let at-result = at-result2 .before .before .before .before .before .before .before .before .before .before in
     let at-read-target2 = at-result .before .before .before .before .before .before .before .before .before in
     let at-read-target = at-read-target2 .before .before .before .before .before .before .before .before .before in
-    let start = at-read-target .before .before .before .before .before .before .before .before in
-    let w = start .args .wide in
-    let one = at-read-target .read-target .result in
-    λ g. seq _ _ _ _ _ _ (at-result .result .ensures _ g) (at-result2 .result2 .ensures _ g)
-    ∙ at-read-target2 .read-target2 .ensures .2 g (λ (y : Cell) (b : ℕ). result w (cellOf (one .place)) b >> result w y (one .now .word))
-    ∙ at-read-target .read-target .ensures .2 g (λ (x : Cell) (a : ℕ). target w (λ y b. result w x b >> result w y a))
+    λ _. ends (at-read-target .read-target .ensures .2 _ _) (ends (at-read-target2 .read-target2 .ensures .2 _ _)
+    (seq (at-result .result .ensures _) (at-result2 .result2 .ensures _)))
 
 pub ex-spec : {M : Type 1} → statement M
 ex-spec =

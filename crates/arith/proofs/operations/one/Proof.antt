@@ -1,11 +1,6 @@
 -- The operand and its value, then what the operation stores.
-use mathlib.Core.Path.{_∙_}
-use Prim.Native.Nat.{ℕ}
-use Rattle.rules.specs.Operands.{Cell}
-use Rattle.rules.specs.Arithmetic.{oneEffect}
 use Rattle.rules.specs.Instructions.{storeEffect, oneRule}
-use Rattle.rules.proofs.Laws.{via}
-use Rattle.arith.specs.Effects.{oneOf}
+use Rattle.machine.proofs.Chain.{via, ends}
 use borrow.Author.Needs.{needs}
 use Rattle.arith.proofs.operations.one.Statement.{statement}
 use Rattle.arith.proofs.operations.one.Tie as tie
@@ -34,10 +29,7 @@ returns c =
     let at-store-effect = c .before .before .before .before .before .before in
     let at-one-effect = at-store-effect .before .before .before .before in
     let at-read-target = at-one-effect .before .before .before .before .before .before in
-    let start = at-read-target .before .before .before .before .before .before .before .before in
-    let w = start .args .wide in
-    λ g. via _ _ _ (storeEffect w _) _ _ (at-one-effect .one-effect .ensures) (at-store-effect .store-effect .ensures _ g)
-    ∙ at-read-target .read-target .ensures .2 g (λ (x : Cell) (v : ℕ). storeEffect w x (oneEffect (oneOf (start .args .op)) w v))
+    λ _. ends (at-read-target .read-target .ensures .2 _ _) (via (storeEffect _ _) (at-one-effect .one-effect .ensures) (at-store-effect .store-effect .ensures _))
 
 pub one-spec : {M : Type 1} → statement M
 one-spec =

@@ -1,6 +1,6 @@
 -- By the effect: a status, then a result; or one of the two; or the condition bit.
 use Rattle.rules.specs.Instructions.{storeEffect}
-use Rattle.rules.proofs.Laws.{seq}
+use Rattle.machine.proofs.Chain.{seq}
 use borrow.Author.Needs.{needs}
 use Rattle.arith.proofs.operations.store_effect.Statement.{statement}
 use Rattle.arith.proofs.operations.store_effect.Tie as tie
@@ -47,7 +47,7 @@ returns c =
     let at-result = c .before .before .before .before .before .before in
     let at-poke-pad = at-result .before .before .before .before .before .before .before .before in
     let at-e = at-poke-pad .before .before .before .before in
-    λ i g. rw (at-e .e .given .1) (seq _ _ _ _ _ _ (at-poke-pad .poke-pad .ensures i _ g) (at-result .result .ensures i g))
+    λ _. rw (at-e .e .given .1) (seq (at-poke-pad .poke-pad .ensures _) (at-result .result .ensures _))
 
 same-length-4 : tie.Need-same-length-4
 same-length-4 c = search needs
@@ -63,7 +63,7 @@ unfolding storeEffect
 returns-2 c =
     let at-result2 = c .before .before .before .before .before .before in
     let at-e2 = at-result2 .before .before .before .before .before in
-    λ i g. rw (at-e2 .e2 .given .1) (at-result2 .result2 .ensures i g)
+    λ _. rw (at-e2 .e2 .given .1) (at-result2 .result2 .ensures _)
 
 same-length-7 : tie.Need-same-length-7
 same-length-7 c = search needs
@@ -75,7 +75,7 @@ returns-3 : tie.Need-returns-3
 unfolding storeEffect
 returns-3 c =
     let at-e3 = c .before .before .before .before .before .before .before .before in
-    λ i g. rw (at-e3 .e3 .given .1) (c .before .before .before .before .poke-pad2 .ensures i _ g)
+    λ _. rw (at-e3 .e3 .given .1) (c .before .before .before .before .poke-pad2 .ensures _)
 
 same-length-9 : tie.Need-same-length-9
 same-length-9 c = search needs
@@ -87,7 +87,7 @@ returns-4 : tie.Need-returns-4
 unfolding storeEffect
 returns-4 c =
     let at-e4 = c .before .before .before .before .before .before .before .before in
-    λ i g. rw (at-e4 .e4 .given .1) (c .before .before .before .before .set-condition .ensures i _ g)
+    λ _. rw (at-e4 .e4 .given .1) (c .before .before .before .before .set-condition .ensures _)
 
 pub store-effect-spec : {M : Type 1} → statement M
 store-effect-spec =

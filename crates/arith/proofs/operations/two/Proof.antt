@@ -1,12 +1,7 @@
 -- The destination and its value, the source, then what the operation stores.
 use mathlib.Core.Path.{_∙_}
-use Prim.Native.Nat.{ℕ}
-use Rattle.rules.specs.Rules.{_>>=_}
-use Rattle.rules.specs.Operands.{Cell, source}
-use Rattle.rules.specs.Arithmetic.{twoEffect}
 use Rattle.rules.specs.Instructions.{storeEffect, twoRule}
-use Rattle.rules.proofs.Laws.{bind, via}
-use Rattle.arith.specs.Effects.{twoOf}
+use Rattle.machine.proofs.Chain.{bind, via, ends}
 use borrow.Author.Needs.{needs}
 use Rattle.arith.proofs.operations.two.Statement.{statement}
 use Rattle.arith.proofs.operations.two.Tie as tie
@@ -47,11 +42,8 @@ returns c =
     let at-two-effect = at-store-effect .before .before .before .before in
     let at-source = at-two-effect .before .before .before .before .before in
     let at-read-target = at-source .before .before .before .before .before .before .before .before .before in
-    let start = at-read-target .before .before .before .before .before .before .before .before in
-    let w = start .args .wide in
-    let op = twoOf (start .args .op) in
-    λ g. bind _ _ _ _ _ _ _ (at-source .source .ensures .1 g) (via _ _ _ (storeEffect w _) _ _ (at-two-effect .two-effect .ensures) (at-store-effect .store-effect .ensures _ g))
-    ∙ at-read-target .read-target .ensures .2 g (λ (x : Cell) (a : ℕ). source (start .args .imm) w >>= (λ b. storeEffect w x (twoEffect op w a b)))
+    λ _. ends (at-read-target .read-target .ensures .2 _ _)
+    (bind _ (at-source .source .ensures .1 _) (via (storeEffect _ _) (at-two-effect .two-effect .ensures) (at-store-effect .store-effect .ensures _)))
 
 pub two-spec : {M : Type 1} → statement M
 two-spec =

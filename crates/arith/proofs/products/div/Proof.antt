@@ -1,11 +1,10 @@
 -- The destination and its value, the source, the status, the low half, then the quotient and the rest.
 use mathlib.Core.Path.{_∙_}
-use Prim.Native.Nat.{ℕ}
 use Rattle.rules.specs.Machine.{cpu, status}
-use Rattle.rules.specs.Rules.{_>>=_, _>>_, poke}
-use Rattle.rules.specs.Operands.{Cell, byteCount, past, source, standing}
-use Rattle.rules.specs.Instructions.{divStatus, divided, divRule}
-use Rattle.rules.proofs.Laws.{bind, seq, via}
+use Rattle.rules.specs.Rules.{poke}
+use Rattle.rules.specs.Operands.{standing}
+use Rattle.rules.specs.Instructions.{divRule}
+use Rattle.machine.proofs.Chain.{bind, seq, via, ends}
 use borrow.Author.Needs.{needs}
 use Rattle.arith.proofs.products.div.Statement.{statement}
 use Rattle.arith.proofs.products.div.Tie as tie
@@ -79,13 +78,9 @@ returns c =
     let at-div-status = at-poke-pad .before in
     let at-source = at-div-status .before .before .before .before .before .before .before in
     let at-read-target = at-source .before .before .before .before .before .before .before .before .before in
-    let start = at-read-target .before .before .before .before .before .before .before .before in
-    let w = start .args .wide in
-    λ g. bind _ _ _ _ _ _ _ (at-source .source .ensures .1 g)
-    (seq _ _ _ _ _ _ (via _ _ _ (poke cpu status) _ _ (at-div-status .div-status .ensures .0) (at-poke-pad .poke-pad .ensures _ _ g))
-    (bind _ _ _ _ _ _ _ (via _ _ _ (standing w) _ _ (at-low-half .low-half .ensures) (at-standing .standing .ensures .1 _ g _)) (at-divided .divided .ensures _ g)))
-    ∙ at-read-target .read-target .ensures .2 g (λ (x : Cell) (upper : ℕ). source (start .args .imm) w >>= (λ b.
-    poke cpu status (divStatus w) >> (standing w (past (byteCount w) x) >>= (λ lower. divided w x upper lower b))))
+    λ _. ends (at-read-target .read-target .ensures .2 _ _) (bind _ (at-source .source .ensures .1 _)
+    (seq (via (poke cpu status) (at-div-status .div-status .ensures .0) (at-poke-pad .poke-pad .ensures _))
+    (bind _ (via (standing _) (at-low-half .low-half .ensures) (at-standing .standing .ensures .1 _)) (at-divided .divided .ensures _))))
 
 pub div-spec : {M : Type 1} → statement M
 div-spec =

@@ -1,8 +1,7 @@
 -- By the test: the overflow alone, or the quotient and the rest.
 use Rattle.rules.specs.Instructions.{divided, divResults}
-use Rattle.rules.proofs.Laws.{via₂}
+use Rattle.machine.proofs.Chain.{via₂}
 use Rattle.arith.specs.Halves.{halves}
-use Rattle.operand.specs.Places.{cellOf}
 use borrow.Author.Tests.{le-leb, lt-leb}
 use borrow.Author.Needs.{needs}
 use Rattle.arith.proofs.products.divided.Statement.{statement}
@@ -21,7 +20,7 @@ returns : tie.Need-returns
 unfolding divided
 returns c =
     let at-if1 = c .before .before .before .before .before .before .before in
-    λ i g. rw (le-leb _ _ (at-if1 .if1 .taken)) (c .before .before .before .before .div-overflow .ensures i _ g)
+    λ _. rw (le-leb _ _ (at-if1 .if1 .taken)) (c .before .before .before .before .div-overflow .ensures _)
 
 divide-requires : tie.Need-divide-requires
 divide-requires c κs = search needs
@@ -44,10 +43,9 @@ returns-2 c =
     let at-store-halves = c .before .before .before .before .before .before in
     let at-divide = at-store-halves .before .before .before .before in
     let at-if1 = at-divide .before in
-    let start = at-if1 .before .before .before .before in
-    λ i g. rw (lt-leb _ _ (at-if1 .if1 .left))
-    (via₂ _ _ _ (halves (start .args .wide) (cellOf (start .args .place))) _ _ _ _ (at-divide .divide .ensures .0) (at-divide .divide .ensures .1)
-    (at-store-halves .store-halves .ensures i g))
+    λ _. rw (lt-leb _ _ (at-if1 .if1 .left))
+    (via₂ (halves _ _) (at-divide .divide .ensures .0) (at-divide .divide .ensures .1)
+    (at-store-halves .store-halves .ensures _))
 
 pub divided-spec : {M : Type 1} → statement M
 divided-spec =

@@ -1,11 +1,7 @@
 -- The destination and its value, the source, then the two halves of the product.
 use mathlib.Core.Path.{_∙_}
-use Prim.Native.Nat.{ℕ, _*_, _/_, _%_}
-use Rattle.rules.specs.Rules.{_>>=_}
-use Rattle.rules.specs.Operands.{Cell, source}
-use Rattle.rules.specs.Arithmetic.{half, span}
 use Rattle.rules.specs.Instructions.{mulRule}
-use Rattle.rules.proofs.Laws.{bind, via₂}
+use Rattle.machine.proofs.Chain.{bind, via₂, ends}
 use Rattle.arith.specs.Halves.{halves}
 use borrow.Author.Needs.{needs}
 use Rattle.arith.proofs.products.mul.Statement.{statement}
@@ -47,12 +43,8 @@ returns c =
     let at-times = at-store-halves .before .before .before .before in
     let at-source = at-times .before .before .before .before .before in
     let at-read-target = at-source .before .before .before .before .before .before .before .before .before in
-    let start = at-read-target .before .before .before .before .before .before .before .before in
-    let w = start .args .wide in
-    let n = span (half w) in
-    λ g. bind _ _ _ _ _ _ _ (at-source .source .ensures .1 g)
-    (via₂ _ _ _ (halves w _) _ _ _ _ (at-times .times .ensures .0) (at-times .times .ensures .1) (at-store-halves .store-halves .ensures _ g))
-    ∙ at-read-target .read-target .ensures .2 g (λ (x : Cell) (a : ℕ). source (start .args .imm) w >>= (λ b. halves w x (a * b / n) (a * b % n)))
+    λ _. ends (at-read-target .read-target .ensures .2 _ _) (bind _ (at-source .source .ensures .1 _)
+    (via₂ (halves _ _) (at-times .times .ensures .0) (at-times .times .ensures .1) (at-store-halves .store-halves .ensures _)))
 
 pub mul-spec : {M : Type 1} → statement M
 mul-spec =

@@ -1,6 +1,6 @@
 -- One result, then the other in the low half's cell.
 use Rattle.rules.specs.Operands.{Cell, result}
-use Rattle.rules.proofs.Laws.{seq, via}
+use Rattle.machine.proofs.Chain.{seq, via}
 use Rattle.arith.specs.Halves.{halves}
 use borrow.Author.Needs.{needs}
 use Rattle.arith.proofs.products.store_halves.Statement.{statement}
@@ -31,8 +31,8 @@ returns c =
     let at-low-half = at-result2 .before in
     let at-result = at-low-half .before .before .before .before .before .before .before .before .before .before in
     let start = at-result .before .before .before .before .before .before .before in
-    λ i g. seq _ _ _ _ _ _ (at-result .result .ensures i g)
-    (via _ _ _ (λ (x : Cell). result (start .args .wide) x (start .args .h .low)) _ _ (at-low-half .low-half .ensures) (at-result2 .result2 .ensures i g))
+    λ _. seq (at-result .result .ensures _)
+    (via (λ (x : Cell). result (start .args .wide) x (start .args .h .low)) (at-low-half .low-half .ensures) (at-result2 .result2 .ensures _))
 
 pub store-halves-spec : {M : Type 1} → statement M
 store-halves-spec =

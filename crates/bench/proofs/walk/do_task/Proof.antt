@@ -2,8 +2,7 @@
 use mathlib.Core.Path.{refl, _∙_}
 use Prim.Native.Nat.{_≤_, _<_}
 use native.Mathlib.Omega.{arith}
-use Rattle.opcode.specs.Classes.{taskOf}
-use Rattle.bench.proofs.Steps.{began, used-grows, used-stays, took-a-mark, task-done, task-undone, bytes-of}
+use Rattle.bench.proofs.Steps.{tries, used-grows, used-stays, took-a-mark, task-done, task-undone, bytes-of}
 use borrow.Author.Needs.{needs}
 use Rattle.bench.proofs.walk.do_task.Statement.{statement}
 use Rattle.bench.proofs.walk.do_task.Tie as tie
@@ -19,8 +18,7 @@ sub-taken c =
     let at-perform = c .before .before .before .before .before .before .before .before in
     let at-take-mark = at-perform .before .before .before .before .before .before .before in
     let start = at-take-mark .before .before .before .before .before .before .before in
-    let grown : start .args .m .used ≤ at-perform .perform .result .used = used-grows _ (taskOf (start .args .task)) (start .args .pc) _ _ _ _ _ (began _ _ _ _ _ _ _ (start .pre .4)
-    (at-take-mark .take-mark .ensures _ _ _) (at-perform .perform .ensures)) in
+    let grown : start .args .m .used ≤ at-perform .perform .result .used = used-grows (tries (start .pre .4) (at-take-mark .take-mark .ensures _ _ _) (at-perform .perform .ensures _)) in
     omega arith
 
 sub-stores : tie.Need-sub-stores
@@ -28,8 +26,7 @@ sub-stores c =
     let at-perform = c .before .before .before .before .before .before .before .before .before .before in
     let at-take-mark = at-perform .before .before .before .before .before .before .before in
     let start = at-take-mark .before .before .before .before .before .before .before in
-    let grown : start .args .m .used < at-perform .perform .result .used = took-a-mark _ (taskOf (start .args .task)) (start .args .pc) _ _ _ _ _ (began _ _ _ _ _ _ _ (start .pre .4)
-    (at-take-mark .take-mark .ensures _ _ _) (at-perform .perform .ensures)) (c .if1 .taken) in
+    let grown : start .args .m .used < at-perform .perform .result .used = took-a-mark (tries (start .pre .4) (at-take-mark .take-mark .ensures _ _ _) (at-perform .perform .ensures _)) (c .if1 .taken) in
     omega arith
 
 same-length : tie.Need-same-length
@@ -49,8 +46,7 @@ returns c =
     let at-perform = c .before .before .before .before .before .before .before .before .before .before in
     let at-take-mark = at-perform .before .before .before .before .before .before .before in
     let start = at-take-mark .before .before .before .before .before .before .before in
-    task-done _ (taskOf (start .args .task)) (start .args .pc) _ _ _ _ _ (began _ _ _ _ _ _ _ (start .pre .4) (at-take-mark .take-mark .ensures _ _ _)
-    (at-perform .perform .ensures)) _ (c .if1 .taken) refl
+    task-done (tries (start .pre .4) (at-take-mark .take-mark .ensures _ _ _) (at-perform .perform .ensures _)) _ (c .if1 .taken) refl
 
 undo-requires : tie.Need-undo-requires
 undo-requires c κs =
@@ -60,8 +56,7 @@ undo-requires c κs =
       at-perform .perform .kept .1 .0 ∙ start .pre .0,
       at-perform .perform .kept .1 .1 .0 ∙ start .pre .1,
       at-perform .perform .kept .1 .1 .1 .0 ∙ start .pre .2,
-      used-stays _ (taskOf (start .args .task)) (start .args .pc) _ _ _ _ _ (began _ _ _ _ _ _ _ (start .pre .4) (at-take-mark .take-mark .ensures _ _ _)
-          (at-perform .perform .ensures)) (start .pre .3),
+      used-stays (tries (start .pre .4) (at-take-mark .take-mark .ensures _ _ _) (at-perform .perform .ensures _)) (start .pre .3),
     )
 
 same-length-5 : tie.Need-same-length-5
@@ -86,8 +81,7 @@ returns-2 c =
     let at-slice-known2 = at-slice-known3 .before in
     let at-slice-known = at-slice-known2 .before in
     let start = at-slice-known .before .before in
-    task-undone _ (taskOf (start .args .task)) (start .args .pc) _ _ _ _ _ (began _ _ _ _ _ _ _ (start .pre .4) (at-take-mark .take-mark .ensures _ _ _)
-    (at-perform .perform .ensures)) _ (start .fits .pc .fits)
+    task-undone (tries (start .pre .4) (at-take-mark .take-mark .ensures _ _ _) (at-perform .perform .ensures _)) _ (start .fits .pc .fits)
     (bytes-of _ _ _ (start .args .journal .now) (start .args .m .used) (λ n. at-slice-known .slice-known .given n .fits) (λ n. at-slice-known2 .slice-known2 .given n .fits)
     (λ n. at-slice-known3 .slice-known3 .given n .fits)) (at-if1 .if1 .left) (at-undo .undo .ensures)
 

@@ -14,7 +14,7 @@ next-byte-requires : tie.Need-next-byte-requires
 next-byte-requires c κs = search needs
 
 returns : tie.Need-returns
-returns c = step-beyond _ _ _ _ _ _ _ (c .before .before .next-byte .ensures _ _ _ _) (c .if1 .taken)
+returns c = step-beyond (c .before .before .next-byte .ensures _) (c .if1 .taken)
 
 class-of-requires : tie.Need-class-of-requires
 class-of-requires c κs = search needs
@@ -30,14 +30,15 @@ do-task-requires c κs =
     let at-if1 = c .before .before .before .before .before .before .before .before in
     let at-next-byte = at-if1 .before .before in
     let start = at-next-byte .before .before .before .before .before .before in
-    let same = same-mem _ _ _ _ _ _ _ (at-next-byte .next-byte .ensures (start .args .pad .now) (start .args .vram .now) (start .args .regs .now) (start .args .journal .now)) in
+    let same = same-mem (at-next-byte .next-byte .ensures
+    (record { image = tt; pad = start .args .pad .now; vram = start .args .vram .now; regs = start .args .regs .now; journal = start .args .journal .now })) in
     (start .pre .0, start .pre .1, start .pre .2, subst (λ (x : Mem). x .used ≤ length (start .args .journal .now)) (sym same) (start .pre .3), at-if1 .if1 .left)
 
 returns-2 : tie.Need-returns-2
 returns-2 c =
     let at-next-byte = c .before .before .before .before .before .before in
     let stopped = ap meant (sym (c .before .class .given .1)) ∙ c .before .before .before .class-of .ensures in
-    step-halted _ _ _ _ _ _ _ (at-next-byte .next-byte .ensures _ _ _ _) _ (c .before .before .before .before .if1 .left) (halts-not-0 (classOf (at-next-byte .next-byte .result .byte)) _ stopped) stopped
+    step-halted (at-next-byte .next-byte .ensures _) _ (c .before .before .before .before .if1 .left) (halts-not-0 (classOf (at-next-byte .next-byte .result .byte)) _ stopped) stopped
 
 same-length : tie.Need-same-length
 same-length c = search needs
@@ -59,7 +60,7 @@ returns-3 c =
     let at-if1 = at-class-of .before in
     let at-next-byte = at-if1 .before .before in
     let does = ap meant (sym (at-class2 .class2 .given .1)) ∙ at-class-of .class-of .ensures in
-    step-does _ _ _ _ _ _ _ (at-next-byte .next-byte .ensures _ _ _ _) _ _ (at-if1 .if1 .left) does (at-do-task .do-task .ensures)
+    step-does (at-next-byte .next-byte .ensures _) _ _ (at-if1 .if1 .left) does (at-do-task .do-task .ensures)
 
 pub fit-step-spec : {M : Type 1} → statement M
 fit-step-spec =

@@ -50,7 +50,7 @@ returns : tie.Need-returns
 unfolding deliver
 returns c =
     let at-to = c .before .before .before .before .before .before .before .before in
-    λ i. rw (at-to .to .given .1) (c .before .before .before .before .poke-pad .ensures i _ _)
+    λ _. rw (at-to .to .given .1) (c .before .before .before .before .poke-pad .ensures _)
 
 same-length-3 : tie.Need-same-length-3
 same-length-3 c = search needs
@@ -62,7 +62,7 @@ returns-2 : tie.Need-returns-2
 unfolding deliver
 returns-2 c =
     let at-to2 = c .before .before .before .before .before .before .before .before in
-    λ i. rw (at-to2 .to2 .given .1) (c .before .before .before .before .poke-vdp .ensures i _ _)
+    λ _. rw (at-to2 .to2 .given .1) (c .before .before .before .before .poke-vdp .ensures _)
 
 same-length-5 : tie.Need-same-length-5
 same-length-5 c = search needs
@@ -77,7 +77,7 @@ returns-3 : tie.Need-returns-3
 returns-3 c =
     let at-to-register = c .before .before .before .before .before .before in
     let at-to3 = at-to-register .before .before .before .before .before in
-    λ i. rw (at-to3 .to3 .given .1) (at-to-register .to-register .ensures i _)
+    λ _. rw (at-to3 .to3 .given .1) (at-to-register .to-register .ensures _)
 
 pub deliver-spec : {M : Type 1} → statement M
 deliver-spec =

@@ -1,7 +1,7 @@
 -- The byte read, then stored.
 use Rattle.rules.specs.Rules.{gromByte}
 use Rattle.rules.specs.Instructions.{sourceByte, deliver, moveByte}
-use Rattle.rules.proofs.Laws.{bind, via}
+use Rattle.machine.proofs.Chain.{bind, via}
 use borrow.Author.Needs.{needs}
 use Rattle.block.proofs.bytes.grom_to_vdp.Statement.{statement}
 use Rattle.block.proofs.bytes.grom_to_vdp.Tie as tie
@@ -29,7 +29,7 @@ unfolding moveByte sourceByte deliver
 returns c =
     let at-poke-vdp = c .before .before .before .before in
     let at-grom-byte = at-poke-vdp .before .before .before in
-    λ p g. bind _ _ _ _ _ _ _ (via _ _ _ gromByte _ _ (at-grom-byte .before .plus .ensures) (at-grom-byte .grom-byte .ensures p _ g _)) (at-poke-vdp .poke-vdp .ensures _ p g)
+    λ _. bind _ (via gromByte (at-grom-byte .before .plus .ensures) (at-grom-byte .grom-byte .ensures _)) (at-poke-vdp .poke-vdp .ensures _)
 
 pub grom-to-vdp-spec : {M : Type 1} → statement M
 grom-to-vdp-spec =

@@ -1,6 +1,6 @@
 -- The byte read, then delivered.
 use Rattle.rules.specs.Instructions.{moveByte}
-use Rattle.rules.proofs.Laws.{bind}
+use Rattle.machine.proofs.Chain.{bind}
 use borrow.Author.Needs.{needs}
 use Rattle.block.proofs.bytes.move_byte.Statement.{statement}
 use Rattle.block.proofs.bytes.move_byte.Tie as tie
@@ -28,7 +28,7 @@ unfolding moveByte
 returns c =
     let at-deliver = c .before .before .before .before .before .before .before .before in
     let at-source-byte = at-deliver .before .before .before .before .before in
-    bind _ _ _ _ _ _ _ (at-source-byte .source-byte .ensures _ _) (at-deliver .deliver .ensures _)
+    λ _. bind _ (at-source-byte .source-byte .ensures _) (at-deliver .deliver .ensures _)
 
 pub move-byte-spec : {M : Type 1} → statement M
 move-byte-spec =

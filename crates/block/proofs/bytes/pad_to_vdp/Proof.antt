@@ -1,6 +1,6 @@
 -- The byte read, then stored.
 use Rattle.rules.specs.Instructions.{sourceByte, deliver, moveByte}
-use Rattle.rules.proofs.Laws.{bind}
+use Rattle.machine.proofs.Chain.{bind}
 use borrow.Author.Needs.{needs}
 use Rattle.block.proofs.bytes.pad_to_vdp.Statement.{statement}
 use Rattle.block.proofs.bytes.pad_to_vdp.Tie as tie
@@ -28,7 +28,7 @@ unfolding moveByte sourceByte deliver
 returns c =
     let at-poke-vdp = c .before .before .before .before in
     let at-peek-pad = at-poke-vdp .before .before .before in
-    λ i g. bind _ _ _ _ _ _ _ (at-peek-pad .peek-pad .ensures i _ g _) (at-poke-vdp .poke-vdp .ensures i _ g)
+    λ _. bind _ (at-peek-pad .peek-pad .ensures _) (at-poke-vdp .poke-vdp .ensures _)
 
 pub pad-to-vdp-spec : {M : Type 1} → statement M
 pad-to-vdp-spec =

@@ -1,7 +1,7 @@
 -- By where it comes from.
 use Rattle.rules.specs.Rules.{gromByte}
 use Rattle.rules.specs.Instructions.{sourceByte}
-use Rattle.rules.proofs.Laws.{via}
+use Rattle.machine.proofs.Chain.{via}
 use borrow.Author.Needs.{needs}
 use Rattle.block.proofs.bytes.source_byte.Statement.{statement}
 use Rattle.block.proofs.bytes.source_byte.Tie as tie
@@ -41,15 +41,15 @@ peek-vdp-requires c κs = search needs
 
 returns : tie.Need-returns
 unfolding sourceByte
-returns c = λ g j. rw (c .before .before .before .from .given .1) (via _ _ _ gromByte _ _ (c .before .plus .ensures) (c .grom-byte .ensures _ _ g j))
+returns c = λ _. rw (c .before .before .before .from .given .1) (via gromByte (c .before .plus .ensures) (c .grom-byte .ensures _))
 
 returns-2 : tie.Need-returns-2
 unfolding sourceByte
-returns-2 c = λ g j. rw (c .before .before .from2 .given .1) (c .peek-pad .ensures _ _ g j)
+returns-2 c = λ _. rw (c .before .before .from2 .given .1) (c .peek-pad .ensures _)
 
 returns-3 : tie.Need-returns-3
 unfolding sourceByte
-returns-3 c = λ g j. rw (c .before .before .from3 .given .1) (c .peek-vdp .ensures _ _ g j)
+returns-3 c = λ _. rw (c .before .before .from3 .given .1) (c .peek-vdp .ensures _)
 
 pub source-byte-spec : {M : Type 1} → statement M
 source-byte-spec =

@@ -22,7 +22,7 @@ unfolding deliver
 returns c =
     let at-register-one = c .before .before .before .before .before .before in
     let at-if1 = at-register-one .before .before .before .before in
-    λ i v. rw (eq-eqb _ _ (at-if1 .if1 .taken)) (at-register-one .register-one .ensures i v)
+    λ _. rw (eq-eqb _ _ (at-if1 .if1 .taken)) (at-register-one .register-one .ensures _)
 
 poke-reg-requires : tie.Need-poke-reg-requires
 poke-reg-requires c κs = search needs
@@ -37,7 +37,7 @@ returns-2 : tie.Need-returns-2
 unfolding deliver
 returns-2 c =
     let at-if1 = c .before .before .before .before .before .before .before in
-    λ i v. rw (ne-eqb _ _ (at-if1 .if1 .left)) (c .before .before .before .before .poke-reg .ensures i _ v)
+    λ _. rw (ne-eqb _ _ (at-if1 .if1 .left)) (c .before .before .before .before .poke-reg .ensures _)
 
 pub to-register-spec : {M : Type 1} → statement M
 to-register-spec =

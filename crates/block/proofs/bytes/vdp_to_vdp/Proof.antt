@@ -1,6 +1,6 @@
 -- The byte read, then stored.
 use Rattle.rules.specs.Instructions.{sourceByte, deliver, moveByte}
-use Rattle.rules.proofs.Laws.{bind}
+use Rattle.machine.proofs.Chain.{bind}
 use borrow.Author.Needs.{needs}
 use Rattle.block.proofs.bytes.vdp_to_vdp.Statement.{statement}
 use Rattle.block.proofs.bytes.vdp_to_vdp.Tie as tie
@@ -28,7 +28,7 @@ unfolding moveByte sourceByte deliver
 returns c =
     let at-poke-vdp = c .before .before .before .before in
     let at-peek-vdp = at-poke-vdp .before .before .before in
-    λ i p g. bind _ _ _ _ _ _ _ (at-peek-vdp .peek-vdp .ensures i p g _) (at-poke-vdp .poke-vdp .ensures i p g)
+    λ _. bind _ (at-peek-vdp .peek-vdp .ensures _) (at-poke-vdp .poke-vdp .ensures _)
 
 pub vdp-to-vdp-spec : {M : Type 1} → statement M
 vdp-to-vdp-spec =

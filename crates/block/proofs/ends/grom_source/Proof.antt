@@ -1,7 +1,7 @@
 -- The address, and its index.
 use mathlib.Core.Path.{refl}
 use Rattle.rules.specs.Instructions.{gromSource}
-use Rattle.rules.proofs.Laws.{bind, gives}
+use Rattle.machine.proofs.Chain.{bind, gives}
 use borrow.Author.Needs.{needs}
 use Rattle.block.proofs.ends.grom_source.Statement.{statement}
 use Rattle.block.proofs.ends.grom_source.Tie as tie
@@ -14,7 +14,7 @@ indexed-requires c κs = search needs
 
 returns : tie.Need-returns
 unfolding gromSource
-returns c = λ v g j. bind _ _ _ _ _ _ _ (c .before .next-word .ensures _ v g j) (bind _ _ _ _ _ _ _ (c .indexed .ensures v g j) (gives _ _ _ _ refl))
+returns c = λ _. bind _ (c .before .next-word .ensures _) (bind _ (c .indexed .ensures _) (gives refl))
 
 pub grom-source-spec : {M : Type 1} → statement M
 grom-source-spec = tie.close (tie.spec next-word-requires indexed-requires returns)

@@ -17,7 +17,7 @@ returns : tie.Need-returns
 unfolding moveSource
 returns c =
     let at-if1 = c .before .before .before .before .before .before .before in
-    λ v g. rw (at-if1 .if1 .taken) (c .before .before .before .before .cell-source .ensures v g)
+    λ _. rw (at-if1 .if1 .taken) (c .before .before .before .before .cell-source .ensures _)
 
 grom-source-requires : tie.Need-grom-source-requires
 grom-source-requires c κs = search needs
@@ -27,7 +27,7 @@ same-length-3 c = search needs
 
 returns-2 : tie.Need-returns-2
 unfolding moveSource
-returns-2 c = λ v g. rw (c .before .before .if1 .left) (c .grom-source .ensures v g _)
+returns-2 c = λ _. rw (c .before .before .if1 .left) (c .grom-source .ensures _)
 
 pub move-source-spec : {M : Type 1} → statement M
 move-source-spec =

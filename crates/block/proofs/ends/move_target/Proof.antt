@@ -9,7 +9,7 @@ register-cell-requires c κs = search needs
 
 returns : tie.Need-returns
 unfolding moveTarget
-returns c = λ v g. rw (c .before .if1 .taken) (c .register-cell .ensures _ v g _)
+returns c = λ _. rw (c .before .if1 .taken) (c .register-cell .ensures _)
 
 place-target-requires : tie.Need-place-target-requires
 place-target-requires c κs = search needs
@@ -24,7 +24,7 @@ returns-2 : tie.Need-returns-2
 unfolding moveTarget
 returns-2 c =
     let at-if1 = c .before .before .before .before .before .before .before in
-    λ v g. rw (at-if1 .if1 .left) (c .before .before .before .before .place-target .ensures v g)
+    λ _. rw (at-if1 .if1 .left) (c .before .before .before .before .place-target .ensures _)
 
 pub move-target-spec : {M : Type 1} → statement M
 move-target-spec =

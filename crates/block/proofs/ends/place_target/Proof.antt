@@ -1,5 +1,5 @@
 -- The operand's cell, beside its state.
-use Rattle.block.proofs.Laws.{as-cell}
+use Rattle.operand.proofs.Reach.{apart}
 use borrow.Author.Needs.{needs}
 use Rattle.block.proofs.ends.place_target.Statement.{statement}
 use Rattle.block.proofs.ends.place_target.Tie as tie
@@ -25,7 +25,7 @@ same-length-2 c = search needs
 returns : tie.Need-returns
 returns c =
     let at-operand = c .before .before .before .before .before .before .before in
-    λ v g. as-cell _ v g _ _ _ _ _ _ (c .before .before .now-of .ensures) (c .before .place-of .ensures) (c .target-at .ensures) (at-operand .operand .ensures .1 v g)
+    λ _. rw (c .target-at .ensures) (apart (at-operand .operand .result) (at-operand .operand .ensures .1 _) (c .before .before .now-of .ensures) (c .before .place-of .ensures))
 
 pub place-target-spec : {M : Type 1} → statement M
 place-target-spec =

@@ -1,7 +1,7 @@
 -- The byte is the register's number.
 use mathlib.Core.Path.{refl}
 use Rattle.rules.specs.Instructions.{registerCell}
-use Rattle.rules.proofs.Laws.{bind, gives}
+use Rattle.machine.proofs.Chain.{bind, gives}
 use borrow.Author.Needs.{needs}
 use Rattle.block.proofs.ends.register_cell.Statement.{statement}
 use Rattle.block.proofs.ends.register_cell.Tie as tie
@@ -11,7 +11,7 @@ next-byte-requires c κs = search needs
 
 returns : tie.Need-returns
 unfolding registerCell
-returns c = λ p v g j. bind _ _ _ _ _ _ _ (c .next-byte .ensures p v g j) (gives _ _ _ _ refl)
+returns c = λ _. bind _ (c .next-byte .ensures _) (gives refl)
 
 pub register-cell-spec : {M : Type 1} → statement M
 register-cell-spec = tie.close (tie.spec next-byte-requires returns)

@@ -1,29 +1,29 @@
--- The invariant: the bytes left, moved now, give what all of them give from the start; and every length is as it was.
-use mathlib.Core.Path.{_≡_, refl, _∙_}
+-- The invariant: of all the bytes, those from the k-th on are left to move; and every length is as it was.
+use mathlib.Core.Path.{_≡_, refl}
 use Prim.Native.Nat.{_-_, _≤_}
 use native.Mathlib.Omega.{arith}
 use lib.ListN.{length}
 use borrow.Author.Needs.{needs}
-use Rattle.rules.specs.Rules.{after}
 use Rattle.rules.specs.Instructions.{moveBytes}
-use Rattle.machine.specs.Said.{out}
+use Rattle.rules.proofs.Loops.{up, none-left, none-made}
+use Rattle.machine.specs.Said.{_&_, imageFrom, padFrom, vramFrom, regsFrom, journalFrom, Leaves}
+use Rattle.machine.proofs.Chain.{whole, turns, ends, over}
 use Rattle.machine.proofs.Acts.{still}
 use Rattle.block.specs.Ends.{targetOf, originOf}
-use Rattle.block.proofs.Laws.{bytes-more, bytes-none, bytes-all}
+use Rattle.block.proofs.Laws.{moves}
 use Rattle.block.proofs.whole.any_bytes.Statement.{statement}
 use Rattle.block.proofs.whole.any_bytes.Tie as tie
 
 abbrev Inv-loop : tie.InvT-loop
 Inv-loop image pad₀ vram₀ regs₀ journal₀ n from to x₀ k₀ pad vram regs journal x k =
-    (after image (out pad vram regs journal x) (moveBytes (n - k) k (originOf from) (targetOf to))
-    ≡ after image (out pad₀ vram₀ regs₀ journal₀ x₀) (moveBytes n 0 (originOf from) (targetOf to)))
+    Leaves (moveBytes n 0 (originOf from) (targetOf to)) (moveBytes (n - k) k (originOf from) (targetOf to)) (imageFrom image image & padFrom pad₀ pad & vramFrom vram₀ vram & regsFrom regs₀ regs & journalFrom journal₀ journal) x₀ x
     × (length pad ≡ length pad₀) × (length vram ≡ length vram₀) × (length regs ≡ length regs₀) × (length journal ≡ length journal₀) × (k ≤ n)
 
 abbrev μ-loop : tie.MeasureT-loop
 μ-loop image pad₀ vram₀ regs₀ journal₀ n from to x₀ k₀ pad vram regs journal x k = n - k
 
 loop-holds : tie.Need-loop-holds Inv-loop μ-loop
-loop-holds c = (bytes-all _ _ _ _ _, refl, refl, refl, refl, omega arith)
+loop-holds c = (λ _. whole (none-made (moves _ _) _ 0), refl, refl, refl, refl, omega arith)
 
 move-byte-requires : tie.Need-move-byte-requires Inv-loop μ-loop
 move-byte-requires c κs = search needs
@@ -45,7 +45,7 @@ returns c =
     let at-move-byte = c .before .before .before .before .before .before .before .before .before .before in
     let at-loop-test = at-move-byte .before .before .before .before .before in
     let at-loop = at-loop-test .before in
-    still _ _ _ _ _ (c .if1 .taken) ∙ bytes-more _ _ _ _ _ _ _ (at-loop-test .loop-test .taken) (at-move-byte .move-byte .ensures) ∙ at-loop .loop .inv .0
+    λ _. ends (turns (at-loop .loop .inv .0 _) (up (moves _ _) refl (at-loop-test .loop-test .taken)) (at-move-byte .move-byte .ensures _)) (still (c .if1 .taken))
 
 add-k : tie.Need-add-k Inv-loop μ-loop
 add-k c = search needs
@@ -58,7 +58,7 @@ loop-again c =
     let at-move-byte = c .before .before .before .before .before .before .before .before .before .before in
     let at-loop-test = at-move-byte .before .before .before .before .before in
     let at-loop = at-loop-test .before in
-    (bytes-more _ _ _ _ _ _ _ (at-loop-test .loop-test .taken) (at-move-byte .move-byte .ensures) ∙ at-loop .loop .inv .0, search needs, search needs, search needs, search needs, omega arith)
+    (λ _. turns (at-loop .loop .inv .0 _) (up (moves _ _) refl (at-loop-test .loop-test .taken)) (at-move-byte .move-byte .ensures _), search needs, search needs, search needs, search needs, omega arith)
 
 same-length-5 : tie.Need-same-length-5 Inv-loop μ-loop
 same-length-5 c = search needs
@@ -73,7 +73,7 @@ same-length-8 : tie.Need-same-length-8 Inv-loop μ-loop
 same-length-8 c = search needs
 
 returns-2 : tie.Need-returns-2 Inv-loop μ-loop
-returns-2 c = bytes-none _ _ _ _ _ _ (omega arith) ∙ c .before .loop .inv .0
+returns-2 c = λ _. over (c .before .loop .inv .0 _) (none-left (moves _ _) _ (omega arith))
 
 pub any-bytes-spec : {M : Type 1} → statement M
 any-bytes-spec =

@@ -4,7 +4,7 @@ use mathlib.Core.Bool.{Bool, true}
 use Prim.Native.Nat.{ℕ}
 use Rattle.rules.specs.Operands.{source}
 use Rattle.rules.specs.Instructions.{moveLength, moveTarget, moveSource, moveBytes, moveRule}
-use Rattle.rules.proofs.Laws.{seq, bind, via, via₂}
+use Rattle.machine.proofs.Chain.{seq, bind, via, via₂}
 use Rattle.block.specs.Ends.{targetOf, originOf}
 use borrow.Author.Needs.{needs}
 use Rattle.block.proofs.whole.move_block.Statement.{statement}
@@ -105,13 +105,14 @@ returns c =
     let at-bit3 = at-bit4 .before in
     let at-bit2 = at-bit3 .before in
     let at-bit = at-bit2 .before in
-    bind _ _ _ _ _ _ _ (via _ _ _ (λ (b : Bool). source b true) _ _ (at-bit .bit .ensures) (at-source .source .ensures .1 _))
-    (bind _ _ _ _ _ _ _ (via _ _ _ moveTarget _ _ (at-bit4 .bit4 .ensures) (at-move-target .move-target .ensures _ _))
-    (bind _ _ _ _ _ _ _ (via₂ _ _ _ moveSource _ _ _ _ (at-bit3 .bit3 .ensures) (at-bit2 .bit2 .ensures) (at-move-source .move-source .ensures _ _))
-    (seq _ _ _ _ _ _ (at-push-pc .push-pc .ensures _ _ _)
-    (seq _ _ _ _ _ _ (via _ _ _ (λ (n : ℕ). moveBytes n 0 (originOf (at-move-source .move-source .result .origin)) (targetOf (at-move-target .move-target .result .target))) _ _
-    (at-move-count .move-count .ensures) (at-move-bytes .move-bytes .ensures))
-    (c .before .before .before .before .pop-pc .ensures _ _ _)))))
+    λ _.
+    bind _ (via (λ (b : Bool). source b true) (at-bit .bit .ensures) (at-source .source .ensures .1 _))
+    (bind _ (via moveTarget (at-bit4 .bit4 .ensures) (at-move-target .move-target .ensures _))
+    (bind _ (via₂ moveSource (at-bit3 .bit3 .ensures) (at-bit2 .bit2 .ensures) (at-move-source .move-source .ensures _))
+    (seq (at-push-pc .push-pc .ensures _)
+    (seq (via (λ (n : ℕ). moveBytes n 0 (originOf (at-move-source .move-source .result .origin)) (targetOf (at-move-target .move-target .result .target)))
+    (at-move-count .move-count .ensures) (at-move-bytes .move-bytes .ensures _))
+    (c .before .before .before .before .pop-pc .ensures _)))))
 
 pub move-block-spec : {M : Type 1} → statement M
 move-block-spec =

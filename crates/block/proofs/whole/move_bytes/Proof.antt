@@ -37,7 +37,7 @@ returns : tie.Need-returns
 returns c =
     let at-bytes = c .before .before .before .before in
     let at-from = at-bytes .before .before .before .before in
-    rw (at-from .before .before .before .to .given .1, at-from .from .given .1) (at-bytes .grom-bytes .ensures _ _)
+    λ _. rw (at-from .before .before .before .to .given .1, at-from .from .given .1) (at-bytes .grom-bytes .ensures _)
 
 same-length-3 : tie.Need-same-length-3
 same-length-3 c = search needs
@@ -52,7 +52,7 @@ returns-2 : tie.Need-returns-2
 returns-2 c =
     let at-bytes = c .before .before .before .before in
     let at-from = at-bytes .before .before .before .before .before in
-    rw (at-from .before .before .before .to .given .1, at-from .from2 .given .1) (at-bytes .pad-bytes .ensures _ _)
+    λ _. rw (at-from .before .before .before .to .given .1, at-from .from2 .given .1) (at-bytes .pad-bytes .ensures _)
 
 same-length-6 : tie.Need-same-length-6
 same-length-6 c = search needs
@@ -64,7 +64,7 @@ returns-3 : tie.Need-returns-3
 returns-3 c =
     let at-bytes = c .before .before .before .before in
     let at-from = at-bytes .before .before .before .before in
-    rw (at-from .before .before .before .to .given .1, at-from .from3 .given .1) (at-bytes .vdp-bytes .ensures _ _ _)
+    λ _. rw (at-from .before .before .before .to .given .1, at-from .from3 .given .1) (at-bytes .vdp-bytes .ensures _)
 
 same-length-8 : tie.Need-same-length-8
 same-length-8 c = search needs

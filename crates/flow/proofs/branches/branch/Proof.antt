@@ -2,7 +2,7 @@
 use mathlib.Core.Path.{_∙_, ap}
 use mathlib.Core.Bool.{Bool}
 use Rattle.rules.specs.Instructions.{taken, jumpIf, branchRule}
-use Rattle.rules.proofs.Laws.{bind, seq, via}
+use Rattle.machine.proofs.Chain.{bind, seq, via}
 use borrow.Author.Needs.{needs}
 use Rattle.flow.proofs.branches.branch.Statement.{statement}
 use Rattle.flow.proofs.branches.branch.Tie as tie
@@ -46,11 +46,11 @@ returns c =
     let start = at-next-byte .before .before .before .before in
     let target = at-word-of .word-of in
     let test = at-taken .taken .ensures ∙ ap (taken (start .args .set)) (at-bit .bit .ensures) in
-    λ v g.
-    bind _ _ _ _ _ _ _ (at-next-byte .next-byte .ensures _ v g _)
-    (bind _ _ _ _ _ _ _ (at-peek-pad .peek-pad .ensures _ v g _)
-    (seq _ _ _ _ _ _ (via _ _ _ (jumpIf _) _ _ (target .ensures) (via _ _ _ (λ (t : Bool). jumpIf t (target .result)) _ _ test (at-jump-if .jump-if .ensures _ _ v g _)))
-    (c .before .before .before .before .set-condition .ensures _ v g)))
+    λ _.
+    bind _ (at-next-byte .next-byte .ensures _)
+    (bind _ (at-peek-pad .peek-pad .ensures _)
+    (seq (via (jumpIf _) (target .ensures) (via (λ (t : Bool). jumpIf t (target .result)) test (at-jump-if .jump-if .ensures _)))
+    (c .before .before .before .before .set-condition .ensures _)))
 
 pub branch-spec : {M : Type 1} → statement M
 branch-spec =

@@ -1,6 +1,6 @@
 -- The address read, pc pushed, the jump, and the condition cleared.
 use Rattle.rules.specs.Instructions.{callRule}
-use Rattle.rules.proofs.Laws.{bind, seq}
+use Rattle.machine.proofs.Chain.{bind, seq}
 use borrow.Author.Needs.{needs}
 use Rattle.flow.proofs.branches.call.Statement.{statement}
 use Rattle.flow.proofs.branches.call.Tie as tie
@@ -29,9 +29,9 @@ returns c =
     let at-jump = c .before .before .before .before .before .before .before in
     let at-push-pc = at-jump .before .before .before .before .before in
     let at-next-word = at-push-pc .before .before .before in
-    λ v g.
-    bind _ _ _ _ _ _ _ (at-next-word .next-word .ensures _ v g _) (seq _ _ _ _ _ _ (at-push-pc .push-pc .ensures _ v g)
-    (seq _ _ _ _ _ _ (at-jump .jump .ensures _ _ v g _) (c .before .before .before .before .set-condition .ensures _ v g)))
+    λ _.
+    bind _ (at-next-word .next-word .ensures _) (seq (at-push-pc .push-pc .ensures _)
+    (seq (at-jump .jump .ensures _) (c .before .before .before .before .set-condition .ensures _)))
 
 pub call-spec : {M : Type 1} → statement M
 call-spec =

@@ -1,7 +1,7 @@
 -- pc as it stands, and the jump.
 use Rattle.rules.specs.Rules.{goto}
 use Rattle.rules.specs.Instructions.{jumpInGroup}
-use Rattle.rules.proofs.Laws.{bind, via}
+use Rattle.machine.proofs.Chain.{bind, via}
 use Rattle.machine.proofs.Acts.{here-is}
 use borrow.Author.Needs.{needs}
 use Rattle.flow.proofs.branches.jump_in_group.Statement.{statement}
@@ -16,8 +16,8 @@ jump-requires c κs = search needs
 returns : tie.Need-returns
 unfolding jumpInGroup
 returns c =
-    λ i p v g j.
-    bind _ _ _ _ _ _ _ (here-is _ _ _ _) (via _ _ _ goto _ _ (c .before .in-group .ensures) (c .jump .ensures i p v g j))
+    λ _.
+    bind _ here-is (via goto (c .before .in-group .ensures) (c .jump .ensures _))
 
 pub jump-in-group-spec : {M : Type 1} → statement M
 jump-in-group-spec = tie.close (tie.spec in-group-requires jump-requires returns)

@@ -1,6 +1,6 @@
 -- The address read, the jump, and the condition cleared.
 use Rattle.rules.specs.Instructions.{longRule}
-use Rattle.rules.proofs.Laws.{bind, seq}
+use Rattle.machine.proofs.Chain.{bind, seq}
 use borrow.Author.Needs.{needs}
 use Rattle.flow.proofs.branches.long.Statement.{statement}
 use Rattle.flow.proofs.branches.long.Tie as tie
@@ -25,9 +25,9 @@ unfolding longRule
 returns c =
     let at-jump = c .before .before .before .before .before .before .before in
     let at-next-word = at-jump .before in
-    λ v g.
-    bind _ _ _ _ _ _ _ (at-next-word .next-word .ensures _ v g _)
-    (seq _ _ _ _ _ _ (at-jump .jump .ensures _ _ v g _) (c .before .before .before .before .set-condition .ensures _ v g))
+    λ _.
+    bind _ (at-next-word .next-word .ensures _)
+    (seq (at-jump .jump .ensures _) (c .before .before .before .before .set-condition .ensures _))
 
 pub long-spec : {M : Type 1} → statement M
 long-spec =

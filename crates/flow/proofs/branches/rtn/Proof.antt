@@ -1,6 +1,6 @@
 -- The condition cleared, and pc popped.
 use Rattle.rules.specs.Instructions.{rtnRule}
-use Rattle.rules.proofs.Laws.{seq}
+use Rattle.machine.proofs.Chain.{seq}
 use borrow.Author.Needs.{needs}
 use Rattle.flow.proofs.branches.rtn.Statement.{statement}
 use Rattle.flow.proofs.branches.rtn.Tie as tie
@@ -21,7 +21,7 @@ returns : tie.Need-returns
 unfolding rtnRule
 returns c =
     let at-set-condition = c .before .before .before .before .before .before .before .before .before .before .before in
-    λ i v g. seq _ _ _ _ _ _ (at-set-condition .set-condition .ensures i v g) (c .before .before .before .before .pop-pc .ensures i v g)
+    λ _. seq (at-set-condition .set-condition .ensures _) (c .before .before .before .before .pop-pc .ensures _)
 
 pub rtn-spec : {M : Type 1} → statement M
 rtn-spec =

@@ -15,7 +15,7 @@ same-length-2 c = search needs
 
 returns : tie.Need-returns
 unfolding rtncRule
-returns c = λ i v g. c .before .before .before .before .pop-pc .ensures i v g
+returns c = λ _. c .before .before .before .before .pop-pc .ensures _
 
 pub rtnc-spec : {M : Type 1} → statement M
 rtnc-spec = tie.close (tie.spec pop-pc-requires same-length same-length-2 returns)

@@ -4,7 +4,7 @@ use Prim.Native.Nat.{ℕ, _+_, _*_, _%_}
 use Rattle.rules.specs.Machine.{group}
 use Rattle.rules.specs.Rules.{goto}
 use Rattle.rules.specs.Instructions.{inGroup, caseRule}
-use Rattle.rules.proofs.Laws.{seq, bind, via}
+use Rattle.machine.proofs.Chain.{seq, bind, via}
 use Rattle.machine.proofs.Acts.{here-is}
 use borrow.Author.Needs.{needs}
 use Rattle.flow.proofs.operands.case.Statement.{statement}
@@ -38,11 +38,11 @@ returns c =
     let at-case-target = at-jump .before in
     let at-extended = at-case-target .before in
     let at-operand-value = at-extended .before .before .before .before .before in
-    λ g.
+    λ _.
     let pc = at-operand-value .operand-value .result .pc in
-    bind _ _ _ _ _ _ _ (at-operand-value .operand-value .ensures .1 g) (bind _ _ _ _ _ _ _ (here-is _ _ pc _)
-    (seq _ _ _ _ _ _ (via _ _ _ goto _ _ (at-case-target .case-target .ensures ∙ ap (λ (x : ℕ). inGroup pc (pc % group + 2 * x)) (at-extended .extended .ensures)) (at-jump .jump .ensures _ _ _ g _))
-    (c .before .before .before .before .set-condition .ensures _ _ g)))
+    bind _ (at-operand-value .operand-value .ensures .1 _) (bind _ here-is
+    (seq (via goto (at-case-target .case-target .ensures ∙ ap (λ (x : ℕ). inGroup pc (pc % group + 2 * x)) (at-extended .extended .ensures)) (at-jump .jump .ensures _))
+    (c .before .before .before .before .set-condition .ensures _)))
 
 pub case-spec : {M : Type 1} → statement M
 case-spec =

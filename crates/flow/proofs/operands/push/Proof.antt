@@ -4,7 +4,7 @@ use Rattle.rules.specs.Machine.{cpu}
 use Rattle.rules.specs.Answers.{offStack}
 use Rattle.rules.specs.Rules.{need, poke}
 use Rattle.rules.specs.Instructions.{pushRule}
-use Rattle.rules.proofs.Laws.{seq, bind, via, kept-byte}
+use Rattle.machine.proofs.Chain.{seq, bind, via, kept-byte}
 use borrow.Author.Needs.{needs}
 use Rattle.flow.proofs.operands.push.Statement.{statement}
 use Rattle.flow.proofs.operands.push.Tie as tie
@@ -70,11 +70,11 @@ returns c =
     let at-on-data-stack = at-need .before in
     let at-peek-pad = at-on-data-stack .before .before in
     let at-operand-value = at-peek-pad .before .before .before .before .before .before in
-    λ g.
-    bind _ _ _ _ _ _ _ (at-operand-value .operand-value .ensures .1 g) (bind _ _ _ _ _ _ _ (at-peek-pad .peek-pad .ensures _ _ g _)
-    (seq _ _ _ _ _ _ (via _ _ _ (λ b. need b offStack) _ _ (at-on-data-stack .on-data-stack .ensures) (at-need .need .ensures offStack refl _ _ _ g _))
-    (seq _ _ _ _ _ _ (at-poke-pad .poke-pad .ensures _ _ g ∙ kept-byte _ _ _ _ _ _ refl)
-    (via _ _ _ (poke cpu _) _ _ (at-low-of .low-of .ensures) (c .before .before .before .before .poke-pad2 .ensures _ _ g)))))
+    λ _.
+    bind _ (at-operand-value .operand-value .ensures .1 _) (bind _ (at-peek-pad .peek-pad .ensures _)
+    (seq (via (λ b. need b offStack) (at-on-data-stack .on-data-stack .ensures) (at-need .need .ensures offStack refl _))
+    (seq (kept-byte refl (at-poke-pad .poke-pad .ensures _))
+    (via (poke cpu _) (at-low-of .low-of .ensures) (c .before .before .before .before .poke-pad2 .ensures _)))))
 
 pub push-spec : {M : Type 1} → statement M
 push-spec =

@@ -6,7 +6,7 @@ use Rattle.rules.specs.Operands.{pokeWord}
 use Rattle.rules.specs.Arithmetic.{randomOf}
 use Rattle.rules.specs.Rules.{poke}
 use Rattle.rules.specs.Instructions.{randRule}
-use Rattle.rules.proofs.Laws.{bind, seq, via}
+use Rattle.machine.proofs.Chain.{bind, seq, via}
 use borrow.Author.Needs.{needs}
 use Rattle.flow.proofs.random.rand.Statement.{statement}
 use Rattle.flow.proofs.random.rand.Tie as tie
@@ -44,10 +44,10 @@ returns c =
     let at-next-seed = at-poke-pad-word .before .before .before in
     let at-peek-pad-word = at-next-seed .before in
     let made = at-random-of .random-of .ensures ∙ ap (λ (s : ℕ). randomOf s (at-next-byte .next-byte .result .byte)) (at-next-seed .next-seed .ensures) in
-    λ v g.
-    bind _ _ _ _ _ _ _ (at-peek-pad-word .peek-pad-word .ensures _ v g _)
-    (seq _ _ _ _ _ _ (via _ _ _ (pokeWord cpu _) _ _ (at-next-seed .next-seed .ensures) (at-poke-pad-word .poke-pad-word .ensures _ v g))
-    (bind _ _ _ _ _ _ _ (at-next-byte .next-byte .ensures _ v g _) (via _ _ _ (poke cpu _) _ _ made (c .before .before .before .before .poke-pad .ensures _ v g))))
+    λ _.
+    bind _ (at-peek-pad-word .peek-pad-word .ensures _)
+    (seq (via (pokeWord cpu _) (at-next-seed .next-seed .ensures) (at-poke-pad-word .poke-pad-word .ensures _))
+    (bind _ (at-next-byte .next-byte .ensures _) (via (poke cpu _) made (c .before .before .before .before .poke-pad .ensures _))))
 
 pub rand-spec : {M : Type 1} → statement M
 rand-spec =

@@ -5,7 +5,7 @@ use Rattle.rules.specs.Machine.{cpu}
 use Rattle.rules.specs.Arithmetic.{withCondition}
 use Rattle.rules.specs.Rules.{poke}
 use Rattle.rules.specs.Instructions.{testRule}
-use Rattle.rules.proofs.Laws.{bind, via}
+use Rattle.machine.proofs.Chain.{bind, via}
 use borrow.Author.Needs.{needs}
 use Rattle.flow.proofs.status.test_status.Statement.{statement}
 use Rattle.flow.proofs.status.test_status.Tie as tie
@@ -35,8 +35,8 @@ returns c =
     let at-tested = at-with-condition .before in
     let at-peek-pad = at-tested .before in
     let made = at-with-condition .with-condition .ensures ∙ ap (λ (x : Bool). withCondition x (at-peek-pad .peek-pad .result .byte)) (at-tested .tested .ensures) in
-    λ i v g.
-    bind _ _ _ _ _ _ _ (at-peek-pad .peek-pad .ensures i v g _) (via _ _ _ (poke cpu _) _ _ made (c .before .before .before .before .poke-pad .ensures i v g))
+    λ _.
+    bind _ (at-peek-pad .peek-pad .ensures _) (via (poke cpu _) made (c .before .before .before .before .poke-pad .ensures _))
 
 pub test-status-spec : {M : Type 1} → statement M
 test-status-spec =

@@ -18,14 +18,14 @@ returns : tie.Need-returns
 unfolding blockTurn
 returns c =
     let at-if1 = c .before .before .before .before .before .before .before in
-    (c .before .before .before .before .close-block .ensures .0, λ i v g. rw (eq-eqb _ _ (at-if1 .if1 .taken)) (c .before .before .before .before .close-block .ensures .1 i v g))
+    (c .before .before .before .before .close-block .ensures .0, λ _. rw (eq-eqb _ _ (at-if1 .if1 .taken)) (c .before .before .before .before .close-block .ensures .1 _))
 
 repeat-block-requires : tie.Need-repeat-block-requires
 repeat-block-requires c κs = search needs
 
 returns-2 : tie.Need-returns-2
 unfolding blockTurn
-returns-2 c = (c .repeat-block .ensures .0, λ i v g. rw (ne-eqb _ _ (c .before .if1 .left)) (c .repeat-block .ensures .1 i _ v g _))
+returns-2 c = (c .repeat-block .ensures .0, λ _. rw (ne-eqb _ _ (c .before .if1 .left)) (c .repeat-block .ensures .1 _))
 
 pub block-turn-spec : {M : Type 1} → statement M
 block-turn-spec =

@@ -1,10 +1,9 @@
 -- By the code's range: text, the two skips, and the rest.
-use Prim.Native.Nat.{ℕ, _*_}
 use native.Mathlib.Omega.{arith}
 use borrow.Author.Tests.{lt-ltb, le-ltb}
-use Rattle.rules.specs.Format.{skip}
-use Rattle.rules.proofs.Laws.{by-rule}
-use Rattle.format.proofs.Laws.{counted, code-text, code-further}
+use Rattle.rules.specs.Format.{goOn}
+use Rattle.machine.proofs.Chain.{seq, by-rule}
+use Rattle.format.proofs.Laws.{code-text, code-further}
 use borrow.Author.Needs.{needs}
 use Rattle.format.proofs.codes.by_code.Statement.{statement}
 use Rattle.format.proofs.codes.by_code.Tie as tie
@@ -29,7 +28,7 @@ returns c =
     let at-text-code = c .before .before .before .before .before .before in
     let at-if1 = at-text-code .before .before .before .before in (
       at-text-code .text-code .ensures .0,
-      λ g. by-rule _ _ _ _ _ (code-text _ _ _ (at-if1 .if1 .taken)) (at-text-code .text-code .ensures .1 g),
+      λ _. by-rule (code-text _ _ _ (at-if1 .if1 .taken)) (at-text-code .text-code .ensures .1 _),
     )
 
 skip-requires : tie.Need-skip-requires
@@ -45,14 +44,15 @@ same-length-5 : tie.Need-same-length-5
 same-length-5 c = search needs
 
 returns-2 : tie.Need-returns-2
+unfolding goOn
 returns-2 c =
     let at-skip = c .before .before .before .before .before in
     let at-if2 = at-skip .before .before .before in
     let at-if1 = at-if2 .before in
     let at-count-of = at-if1 .before in (
       omega (arith, c .go-on .ensures .0),
-      λ g. rw (code-further _ _ _ (at-if1 .if1 .left), lt-ltb _ _ (at-if2 .if2 .taken))
-          (counted _ _ _ _ skip _ _ _ _ (at-count-of .count-of .ensures) (at-skip .skip .ensures _ _ g) (c .go-on .ensures .1 _ _ _ g _)),
+      λ _. rw (code-further _ _ _ (at-if1 .if1 .left), lt-ltb _ _ (at-if2 .if2 .taken), ← at-count-of .count-of .ensures)
+          (seq (at-skip .skip .ensures _) (c .go-on .ensures .1 _)),
     )
 
 mul-cells : tie.Need-mul-cells
@@ -71,6 +71,7 @@ same-length-7 : tie.Need-same-length-7
 same-length-7 c = search needs
 
 returns-3 : tie.Need-returns-3
+unfolding goOn
 returns-3 c =
     let at-skip2 = c .before .before .before .before .before in
     let at-if3 = at-skip2 .before .before .before in
@@ -78,8 +79,8 @@ returns-3 c =
     let at-if1 = at-if2 .before in
     let at-count-of = at-if1 .before in (
       omega (arith, c .go-on2 .ensures .0),
-      λ g. rw (code-further _ _ _ (at-if1 .if1 .left), le-ltb _ _ (at-if2 .if2 .left), lt-ltb _ _ (at-if3 .if3 .taken))
-          (counted _ _ _ _ (λ (x : ℕ). skip (x * 32)) _ _ _ _ (at-count-of .count-of .ensures) (at-skip2 .skip2 .ensures _ _ g) (c .go-on2 .ensures .1 _ _ _ g _)),
+      λ _. rw (code-further _ _ _ (at-if1 .if1 .left), le-ltb _ _ (at-if2 .if2 .left), lt-ltb _ _ (at-if3 .if3 .taken), ← at-count-of .count-of .ensures)
+          (seq (at-skip2 .skip2 .ensures _) (c .go-on2 .ensures .1 _)),
     )
 
 high-code-requires : tie.Need-high-code-requires
@@ -101,7 +102,7 @@ returns-4 c =
     let at-if2 = at-if3 .before in
     let at-if1 = at-if2 .before in (
       at-high-code .high-code .ensures .0,
-      λ g. rw (code-further _ _ _ (at-if1 .if1 .left), le-ltb _ _ (at-if2 .if2 .left), le-ltb _ _ (at-if3 .if3 .left)) (at-high-code .high-code .ensures .1 g),
+      λ _. rw (code-further _ _ _ (at-if1 .if1 .left), le-ltb _ _ (at-if2 .if2 .left), le-ltb _ _ (at-if3 .if3 .left)) (at-high-code .high-code .ensures .1 _),
     )
 
 pub by-code-spec : {M : Type 1} → statement M

@@ -3,7 +3,7 @@ use native.Mathlib.Omega.{arith}
 use Rattle.rules.specs.Machine.{cpu}
 use Rattle.rules.specs.Rules.{poke}
 use Rattle.rules.specs.Format.{closeBlock}
-use Rattle.rules.proofs.Laws.{seq, via}
+use Rattle.machine.proofs.Chain.{seq, via}
 use borrow.Author.Needs.{needs}
 use Rattle.format.proofs.codes.close_block.Statement.{statement}
 use Rattle.format.proofs.codes.close_block.Tie as tie
@@ -32,7 +32,7 @@ returns c =
     let at-poke-pad = c .before .before .before .before .before in
     let at-lowered = at-poke-pad .before .before .before in (
       omega (arith, c .go-on .ensures .0),
-      λ i v g. seq _ _ _ _ _ _ (via _ _ _ (poke cpu _) _ _ (at-lowered .lowered .ensures) (at-poke-pad .poke-pad .ensures i v g)) (c .go-on .ensures .1 i _ v g _),
+      λ _. seq (via (poke cpu _) (at-lowered .lowered .ensures) (at-poke-pad .poke-pad .ensures _)) (c .go-on .ensures .1 _),
     )
 
 pub close-block-spec : {M : Type 1} → statement M

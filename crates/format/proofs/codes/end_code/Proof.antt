@@ -20,7 +20,7 @@ unfolding endCode
 returns c =
     let at-if1 = c .before .before .before .before .before .before .before in (
       omega (arith, c .before .before .before .before .end-outside .ensures .0),
-      λ v g. rw (eq-eqb _ _ (at-if1 .if1 .taken)) (c .before .before .before .before .end-outside .ensures .1 _ v g),
+      λ _. rw (eq-eqb _ _ (at-if1 .if1 .taken)) (c .before .before .before .before .end-outside .ensures .1 _),
     )
 
 end-inside-requires : tie.Need-end-inside-requires
@@ -37,7 +37,7 @@ unfolding endCode
 returns-2 c =
     let at-if1 = c .before .before .before .before .before .before .before in (
       c .before .before .before .before .end-inside .ensures .0,
-      λ v g. rw (ne-eqb _ _ (at-if1 .if1 .left)) (c .before .before .before .before .end-inside .ensures .1 v g),
+      λ _. rw (ne-eqb _ _ (at-if1 .if1 .left)) (c .before .before .before .before .end-inside .ensures .1 _),
     )
 
 pub end-code-spec : {M : Type 1} → statement M

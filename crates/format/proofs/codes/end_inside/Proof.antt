@@ -4,7 +4,7 @@ use Prim.Native.Nat.{ℕ}
 use Rattle.rules.specs.Machine.{cpu}
 use Rattle.rules.specs.Rules.{Rule, _>>_, poke}
 use Rattle.rules.specs.Format.{Turn, blockTurn, endInside}
-use Rattle.rules.proofs.Laws.{bind, seq, via}
+use Rattle.machine.proofs.Chain.{bind, seq, via}
 use borrow.Author.Needs.{needs}
 use Rattle.format.proofs.codes.end_inside.Statement.{statement}
 use Rattle.format.proofs.codes.end_inside.Tie as tie
@@ -51,12 +51,12 @@ returns c =
     let p = at-peek-pad .peek-pad .result .byte in
     let rest : ℕ → Rule Turn = λ n. poke cpu p n >> blockTurn n p (at-next-word .next-word .result .word) (start .args .bias) (start .args .blocks) in (
       c .before .before .before .before .block-turn .ensures .0,
-      λ v g.
-          bind _ _ _ _ _ _ _ (at-next-word .next-word .ensures _ v g _)
-          (bind _ _ _ _ _ _ _ (at-peek-pad .peek-pad .ensures _ v g _)
-          (bind _ _ _ _ _ _ _ (at-peek-pad2 .peek-pad2 .ensures _ v g _)
-          (via _ _ _ rest _ _ (at-wrapping-add-u8 .wrapping-add-u8 .ensures)
-          (seq _ _ _ _ _ _ (at-poke-pad .poke-pad .ensures _ v g) (c .before .before .before .before .block-turn .ensures .1 _ v g))))),
+      λ _.
+          bind _ (at-next-word .next-word .ensures _)
+          (bind _ (at-peek-pad .peek-pad .ensures _)
+          (bind _ (at-peek-pad2 .peek-pad2 .ensures _)
+          (via rest (at-wrapping-add-u8 .wrapping-add-u8 .ensures)
+          (seq (at-poke-pad .poke-pad .ensures _) (c .before .before .before .before .block-turn .ensures .1 _))))),
     )
 
 pub end-inside-spec : {M : Type 1} → statement M

@@ -1,7 +1,7 @@
 -- Row and column stored, and the end.
 use mathlib.Core.Path.{refl}
 use Rattle.rules.specs.Format.{endOutside}
-use Rattle.rules.proofs.Laws.{seq, gives}
+use Rattle.machine.proofs.Chain.{seq, gives}
 use Rattle.format.specs.Turns.{turnOf}
 use borrow.Author.Needs.{needs}
 use Rattle.format.proofs.codes.end_outside.Statement.{statement}
@@ -18,7 +18,7 @@ same-length-2 c = search needs
 
 returns : tie.Need-returns
 unfolding endOutside turnOf
-returns c = (refl, λ i v g. seq _ _ _ _ _ _ (c .before .before .before .before .settle-cursor .ensures i v g) (gives _ _ _ _ refl))
+returns c = (refl, λ _. seq (c .before .before .before .before .settle-cursor .ensures _) (gives refl))
 
 pub end-outside-spec : {M : Type 1} → statement M
 end-outside-spec = tie.close (tie.spec settle-cursor-requires same-length same-length-2 returns)

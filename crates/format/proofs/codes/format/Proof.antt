@@ -1,30 +1,29 @@
--- The invariant: the codes that are left, done now, are what the whole does; the lengths are as they were; and each code opens one block at most.
-use mathlib.Core.Path.{_≡_, refl, _∙_}
-use mathlib.Core.List.{List}
-use Prim.Native.Nat.{ℕ, _+_, _≤_}
+-- The invariant: of the whole, so many codes are left to do; the lengths are as they were; and each code opens one block at most.
+use mathlib.Core.Path.{_≡_, refl}
+use Prim.Native.Nat.{_+_, _≤_}
 use native.Mathlib.Omega.{arith}
 use lib.ListN.{length}
 use borrow.Author.Needs.{needs}
 use borrow.Author.Tests.{not-true, not-false}
 use Rattle.rules.specs.Answers.{tooLong}
-use Rattle.rules.specs.Rules.{after}
 use Rattle.rules.specs.Format.{on, codes, fmtRule}
-use Rattle.machine.specs.Said.{out}
-use Rattle.format.proofs.Laws.{codes-more, codes-over, codes-refused, codes-out}
+use Rattle.machine.specs.Said.{_&_, imageFrom, padFrom, vramFrom, journalFrom, Leaves}
+use Rattle.machine.proofs.Chain.{by-rule, whole, further, ends, turns-with, over}
+use Rattle.machine.proofs.Acts.{still}
+use Rattle.format.proofs.Laws.{codes-turn, codes-on, codes-over, codes-out}
 use Rattle.format.proofs.codes.format.Statement.{statement}
 use Rattle.format.proofs.codes.format.Tie as tie
 
 abbrev Inv-loop : tie.InvT-loop
 Inv-loop image pad₀ vram₀ journal₀ x₀ bias₀ blocks₀ left₀ pad vram journal x bias blocks left =
-    ((g : List ℕ) → after image (out pad vram g journal x) (codes left (on bias blocks))
-    ≡ after image (out pad₀ vram₀ g journal₀ x₀) (codes left₀ (on bias₀ blocks₀)))
+    Leaves (codes left₀ (on bias₀ blocks₀)) (codes left (on bias blocks)) (imageFrom image image & padFrom pad₀ pad & vramFrom vram₀ vram & journalFrom journal₀ journal) x₀ x
     × (length pad ≡ length pad₀) × (length vram ≡ length vram₀) × (length journal ≡ length journal₀) × (blocks + left ≤ 16384)
 
 abbrev μ-loop : tie.MeasureT-loop
 μ-loop image pad₀ vram₀ journal₀ x₀ bias₀ blocks₀ left₀ pad vram journal x bias blocks left = left
 
 loop-holds : tie.Need-loop-holds Inv-loop μ-loop
-loop-holds c = (λ g. refl, refl, refl, refl, omega arith)
+loop-holds c = (λ _. whole refl, refl, refl, refl, omega arith)
 
 code-requires : tie.Need-code-requires Inv-loop μ-loop
 code-requires c κs = search needs
@@ -44,7 +43,7 @@ returns c =
     let at-code = c .before .before .before .before .before .before .before .before .before in
     let at-loop-test = at-code .before .before .before .before in
     let at-loop = at-loop-test .before in
-    λ g. codes-refused _ _ _ _ _ _ _ _ _ (at-loop-test .loop-test .taken) (at-code .code .ensures .1 g) (c .if1 .taken) ∙ at-loop .loop .inv .0 g
+    λ _. ends (turns-with (codes _) (at-loop .loop .inv .0 _) (codes-turn _ _ (at-loop-test .loop-test .taken)) (at-code .code .ensures .1 _)) (still (c .if1 .taken))
 
 same-length-4 : tie.Need-same-length-4 Inv-loop μ-loop
 same-length-4 c = search needs
@@ -61,7 +60,7 @@ returns-2 c =
     let at-code = c .before .before .before .before .before .before .before .before .before .before .before in
     let at-loop-test = at-code .before .before .before .before in
     let at-loop = at-loop-test .before in
-    λ g. codes-over _ _ _ _ _ _ _ _ _ (at-loop-test .loop-test .taken) (at-code .code .ensures .1 g) (not-true _ (c .if2 .taken)) ∙ at-loop .loop .inv .0 g
+    λ _. over (turns-with (codes _) (at-loop .loop .inv .0 _) (codes-turn _ _ (at-loop-test .loop-test .taken)) (at-code .code .ensures .1 _)) (codes-over _ _ _ (not-true _ (c .if2 .taken)))
 
 sub-left : tie.Need-sub-left Inv-loop μ-loop
 sub-left c = search needs
@@ -74,7 +73,7 @@ loop-again c =
     let at-code = c .before .before .before .before .before .before .before .before .before .before .before in
     let at-loop-test = at-code .before .before .before .before in
     let at-loop = at-loop-test .before in (
-      λ g. codes-more _ _ _ _ _ _ _ _ _ (at-loop-test .loop-test .taken) (at-code .code .ensures .1 g) (not-false _ (c .if2 .left)) ∙ at-loop .loop .inv .0 g,
+      λ _. further (turns-with (codes _) (at-loop .loop .inv .0 _) (codes-turn _ _ (at-loop-test .loop-test .taken)) (at-code .code .ensures .1 _)) (whole (codes-on _ _ _ (not-false _ (c .if2 .left)))),
       search needs,
       search needs,
       search needs,
@@ -96,7 +95,7 @@ same-length-9 c = search needs
 returns-3 : tie.Need-returns-3 Inv-loop μ-loop
 unfolding fmtRule
 returns-3 c =
-    λ g. c .need .ensures tooLong refl _ _ _ g _ ∙ codes-out _ _ _ _ _ (omega arith) ∙ c .before .before .loop .inv .0 g
+    λ _. ends (c .before .before .loop .inv .0 _) (by-rule (codes-out _ _ (omega arith)) (c .need .ensures tooLong refl _))
 
 pub format-spec : {M : Type 1} → statement M
 format-spec =

@@ -1,7 +1,7 @@
 -- The bias read, and on with it.
 use native.Mathlib.Omega.{arith}
 use Rattle.rules.specs.Format.{gromBias}
-use Rattle.rules.proofs.Laws.{bind}
+use Rattle.machine.proofs.Chain.{bind}
 use borrow.Author.Needs.{needs}
 use Rattle.format.proofs.codes.grom_bias.Statement.{statement}
 use Rattle.format.proofs.codes.grom_bias.Tie as tie
@@ -15,7 +15,7 @@ go-on-requires c κs = search needs
 returns : tie.Need-returns
 unfolding gromBias
 returns c =
-    (omega (arith, c .go-on .ensures .0), λ p v g j. bind _ _ _ _ _ _ _ (c .before .next-byte .ensures p v g j) (c .go-on .ensures .1 _ p v g j))
+    (omega (arith, c .go-on .ensures .0), λ _. bind _ (c .before .next-byte .ensures _) (c .go-on .ensures .1 _))
 
 pub grom-bias-spec : {M : Type 1} → statement M
 grom-bias-spec = tie.close (tie.spec next-byte-requires go-on-requires returns)

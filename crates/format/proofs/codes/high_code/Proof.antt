@@ -1,11 +1,9 @@
 -- By the code's range: each test passed over, then the kind's own function.
-use Prim.Native.Nat.{ℕ}
 use native.Mathlib.Omega.{arith}
 use borrow.Author.Tests.{lt-ltb, le-ltb}
-use Rattle.rules.specs.Format.{operandText, openBlock, goOn}
-use Rattle.rules.proofs.Laws.{seq, via}
+use Rattle.rules.specs.Format.{goOn}
+use Rattle.machine.proofs.Chain.{seq}
 use Rattle.format.specs.Turns.{highCode}
-use Rattle.format.proofs.Laws.{counted}
 use borrow.Author.Needs.{needs}
 use Rattle.format.proofs.codes.high_code.Statement.{statement}
 use Rattle.format.proofs.codes.high_code.Tie as tie
@@ -26,12 +24,10 @@ returns : tie.Need-returns
 unfolding highCode
 returns c =
     let at-if1 = c .before .before .before .before .before .before .before in
-    let at-count-of = at-if1 .before in
-    let start = at-count-of .before .before .before .before .before in (
+    let at-count-of = at-if1 .before in (
       c .before .before .before .before .open-block .ensures .0,
-      λ g. rw (lt-ltb _ _ (at-if1 .if1 .taken))
-          (via _ _ _ (λ (x : ℕ). openBlock x (start .args .bias) (start .args .blocks)) _ _ (at-count-of .count-of .ensures)
-          (c .before .before .before .before .open-block .ensures .1 _ _ g)),
+      λ _. rw (lt-ltb _ _ (at-if1 .if1 .taken), ← at-count-of .count-of .ensures)
+          (c .before .before .before .before .open-block .ensures .1 _),
     )
 
 operand-text-requires : tie.Need-operand-text-requires
@@ -50,17 +46,15 @@ same-length-5 : tie.Need-same-length-5
 same-length-5 c = search needs
 
 returns-2 : tie.Need-returns-2
-unfolding highCode
+unfolding highCode goOn
 returns-2 c =
     let at-operand-text = c .before .before .before .before .before .before .before in
     let at-if2 = at-operand-text .before .before .before .before in
     let at-if1 = at-if2 .before in
-    let at-count-of = at-if1 .before in
-    let start = at-count-of .before .before .before .before .before in (
+    let at-count-of = at-if1 .before in (
       omega (arith, c .go-on .ensures .0),
-      λ g. rw (le-ltb _ _ (at-if1 .if1 .left), lt-ltb _ _ (at-if2 .if2 .taken))
-          (counted _ _ _ _ (λ (x : ℕ). operandText x (start .args .bias)) _ _ _ _ (at-count-of .count-of .ensures)
-          (at-operand-text .operand-text .ensures g) (c .go-on .ensures .1 _ _ _ g _)),
+      λ _. rw (le-ltb _ _ (at-if1 .if1 .left), lt-ltb _ _ (at-if2 .if2 .taken), ← at-count-of .count-of .ensures)
+          (seq (at-operand-text .operand-text .ensures _) (c .go-on .ensures .1 _)),
     )
 
 end-code-requires : tie.Need-end-code-requires
@@ -79,8 +73,8 @@ returns-3 c =
     let at-if2 = at-if3 .before in
     let at-if1 = at-if2 .before in (
       c .before .before .before .before .end-code .ensures .0,
-      λ g. rw (le-ltb _ _ (at-if1 .if1 .left), le-ltb _ _ (at-if2 .if2 .left), lt-ltb _ _ (at-if3 .if3 .taken))
-          (c .before .before .before .before .end-code .ensures .1 _ g),
+      λ _. rw (le-ltb _ _ (at-if1 .if1 .left), le-ltb _ _ (at-if2 .if2 .left), lt-ltb _ _ (at-if3 .if3 .taken))
+          (c .before .before .before .before .end-code .ensures .1 _),
     )
 
 grom-bias-requires : tie.Need-grom-bias-requires
@@ -90,13 +84,13 @@ returns-4 : tie.Need-returns-4
 unfolding highCode
 returns-4 c = (
   c .grom-bias .ensures .0,
-  λ g. rw (
+  λ _. rw (
     le-ltb _ _ (c .before .before .before .before .if1 .left),
     le-ltb _ _ (c .before .before .before .if2 .left),
     le-ltb _ _ (c .before .before .if3 .left),
     lt-ltb _ _ (c .before .if4 .taken),
   )
-      (c .grom-bias .ensures .1 _ _ g _),
+      (c .grom-bias .ensures .1 _),
 )
 
 operand-bias-requires : tie.Need-operand-bias-requires
@@ -117,14 +111,14 @@ returns-5 c =
     let at-if2 = at-if3 .before in
     let at-if1 = at-if2 .before in (
       c .before .before .before .before .operand-bias .ensures .0,
-      λ g. rw (
+      λ _. rw (
         le-ltb _ _ (at-if1 .if1 .left),
         le-ltb _ _ (at-if2 .if2 .left),
         le-ltb _ _ (at-if3 .if3 .left),
         le-ltb _ _ (at-if4 .if4 .left),
         lt-ltb _ _ (at-if5 .if5 .taken),
       )
-          (c .before .before .before .before .operand-bias .ensures .1 _ g),
+          (c .before .before .before .before .operand-bias .ensures .1 _),
     )
 
 cursor-code-requires : tie.Need-cursor-code-requires
@@ -150,7 +144,7 @@ returns-6 c =
     let at-if2 = at-if3 .before in
     let at-if1 = at-if2 .before in (
       omega (arith, c .go-on2 .ensures .0),
-      λ g. rw (
+      λ _. rw (
         le-ltb _ _ (at-if1 .if1 .left),
         le-ltb _ _ (at-if2 .if2 .left),
         le-ltb _ _ (at-if3 .if3 .left),
@@ -158,7 +152,7 @@ returns-6 c =
         le-ltb _ _ (at-if5 .if5 .left),
         lt-ltb _ _ (at-if6 .if6 .taken),
       )
-          (seq _ _ _ _ _ _ (at-cursor-code .cursor-code .ensures _ g) (c .go-on2 .ensures .1 _ _ _ g _)),
+          (seq (at-cursor-code .cursor-code .ensures _) (c .go-on2 .ensures .1 _)),
     )
 
 cursor-code-requires-2 : tie.Need-cursor-code-requires-2
@@ -184,7 +178,7 @@ returns-7 c =
     let at-if2 = at-if3 .before in
     let at-if1 = at-if2 .before in (
       omega (arith, c .go-on3 .ensures .0),
-      λ g. rw (
+      λ _. rw (
         le-ltb _ _ (at-if1 .if1 .left),
         le-ltb _ _ (at-if2 .if2 .left),
         le-ltb _ _ (at-if3 .if3 .left),
@@ -192,7 +186,7 @@ returns-7 c =
         le-ltb _ _ (at-if5 .if5 .left),
         le-ltb _ _ (at-if6 .if6 .left),
       )
-          (seq _ _ _ _ _ _ (at-cursor-code2 .cursor-code2 .ensures _ g) (c .go-on3 .ensures .1 _ _ _ g _)),
+          (seq (at-cursor-code2 .cursor-code2 .ensures _) (c .go-on3 .ensures .1 _)),
     )
 
 pub high-code-spec : {M : Type 1} → statement M

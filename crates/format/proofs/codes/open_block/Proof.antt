@@ -4,7 +4,7 @@ use native.Mathlib.Numerals.{add-one}
 use native.Mathlib.Omega.{arith}
 use Rattle.rules.specs.Rules.{give}
 use Rattle.rules.specs.Format.{on, openBlock}
-use Rattle.rules.proofs.Laws.{bind, seq, via}
+use Rattle.machine.proofs.Chain.{bind, seq, via}
 use borrow.Author.Needs.{needs}
 use Rattle.format.proofs.codes.open_block.Statement.{statement}
 use Rattle.format.proofs.codes.open_block.Tie as tie
@@ -43,8 +43,8 @@ returns c =
     let at-raise = at-poke-pad .before .before .before .before .before .before .before .before in
     let start = at-raise .before .before .before .before .before in (
       omega (arith, c .go-on .ensures .0),
-      λ i v g. bind _ _ _ _ _ _ _ (at-raise .raise .ensures i v g) (seq _ _ _ _ _ _ (at-poke-pad .poke-pad .ensures i v g)
-          (via _ _ _ (λ (k : ℕ). give (on (start .args .bias) k)) _ _ (add-one _) (c .go-on .ensures .1 i _ v g _))),
+      λ _. bind _ (at-raise .raise .ensures _) (seq (at-poke-pad .poke-pad .ensures _)
+          (via (λ (k : ℕ). give (on (start .args .bias) k)) (add-one _) (c .go-on .ensures .1 _))),
     )
 
 pub open-block-spec : {M : Type 1} → statement M

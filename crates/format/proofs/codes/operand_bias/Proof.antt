@@ -1,7 +1,7 @@
 -- The operand, the bias read there, and on with it.
 use native.Mathlib.Omega.{arith}
 use Rattle.rules.specs.Format.{operandBias}
-use Rattle.rules.proofs.Laws.{bind}
+use Rattle.machine.proofs.Chain.{bind}
 use borrow.Author.Needs.{needs}
 use Rattle.format.proofs.codes.operand_bias.Statement.{statement}
 use Rattle.format.proofs.codes.operand_bias.Tie as tie
@@ -29,7 +29,7 @@ unfolding operandBias
 returns c =
     let at-cpu-operand = c .before .before .before .before .before .before .before .before in (
       omega (arith, c .go-on .ensures .0),
-      λ v g. bind _ _ _ _ _ _ _ (at-cpu-operand .cpu-operand .ensures v g) (bind _ _ _ _ _ _ _ (c .before .peek-pad .ensures _ v g _) (c .go-on .ensures .1 _ _ v g _)),
+      λ _. bind _ (at-cpu-operand .cpu-operand .ensures _) (bind _ (c .before .peek-pad .ensures _) (c .go-on .ensures .1 _)),
     )
 
 pub operand-bias-spec : {M : Type 1} → statement M

@@ -1,7 +1,7 @@
 -- The jump, and on.
 use native.Mathlib.Omega.{arith}
 use Rattle.rules.specs.Format.{repeatBlock}
-use Rattle.rules.proofs.Laws.{seq}
+use Rattle.machine.proofs.Chain.{seq}
 use borrow.Author.Needs.{needs}
 use Rattle.format.proofs.codes.repeat_block.Statement.{statement}
 use Rattle.format.proofs.codes.repeat_block.Tie as tie
@@ -15,7 +15,7 @@ go-on-requires c κs = search needs
 returns : tie.Need-returns
 unfolding repeatBlock
 returns c =
-    (omega (arith, c .go-on .ensures .0), λ i p v g j. seq _ _ _ _ _ _ (c .before .jump .ensures i p v g j) (c .go-on .ensures .1 i p v g j))
+    (omega (arith, c .go-on .ensures .0), λ _. seq (c .before .jump .ensures _) (c .go-on .ensures .1 _))
 
 pub repeat-block-spec : {M : Type 1} → statement M
 repeat-block-spec = tie.close (tie.spec jump-requires go-on-requires returns)

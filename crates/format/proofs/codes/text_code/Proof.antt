@@ -1,10 +1,9 @@
 -- By the code's range: each test passed over, then the kind's own function, and on.
-use Prim.Native.Nat.{ℕ}
 use native.Mathlib.Omega.{arith}
 use borrow.Author.Tests.{lt-ltb, le-ltb}
-use Rattle.rules.specs.Format.{text, repeatText}
+use Rattle.rules.specs.Format.{goOn}
 use Rattle.format.specs.Turns.{textCode}
-use Rattle.format.proofs.Laws.{counted}
+use Rattle.machine.proofs.Chain.{seq}
 use borrow.Author.Needs.{needs}
 use Rattle.format.proofs.codes.text_code.Statement.{statement}
 use Rattle.format.proofs.codes.text_code.Tie as tie
@@ -28,16 +27,14 @@ same-length-3 : tie.Need-same-length-3
 same-length-3 c = search needs
 
 returns : tie.Need-returns
-unfolding textCode
+unfolding textCode goOn
 returns c =
     let at-text = c .before .before .before .before .before .before .before in
     let at-if1 = at-text .before .before .before .before in
-    let at-count-of = at-if1 .before in
-    let start = at-count-of .before .before .before .before .before in (
+    let at-count-of = at-if1 .before in (
       omega (arith, c .go-on .ensures .0),
-      λ g. rw (lt-ltb _ _ (at-if1 .if1 .taken))
-          (counted _ _ _ _ (λ (x : ℕ). text x 1 (start .args .bias)) _ _ _ _ (at-count-of .count-of .ensures)
-          (at-text .text .ensures g) (c .go-on .ensures .1 _ _ _ g _)),
+      λ _. rw (lt-ltb _ _ (at-if1 .if1 .taken), ← at-count-of .count-of .ensures)
+          (seq (at-text .text .ensures _) (c .go-on .ensures .1 _)),
     )
 
 text-requires-2 : tie.Need-text-requires-2
@@ -56,17 +53,15 @@ same-length-6 : tie.Need-same-length-6
 same-length-6 c = search needs
 
 returns-2 : tie.Need-returns-2
-unfolding textCode
+unfolding textCode goOn
 returns-2 c =
     let at-text2 = c .before .before .before .before .before .before .before in
     let at-if2 = at-text2 .before .before .before .before in
     let at-if1 = at-if2 .before in
-    let at-count-of = at-if1 .before in
-    let start = at-count-of .before .before .before .before .before in (
+    let at-count-of = at-if1 .before in (
       omega (arith, c .go-on2 .ensures .0),
-      λ g. rw (le-ltb _ _ (at-if1 .if1 .left), lt-ltb _ _ (at-if2 .if2 .taken))
-          (counted _ _ _ _ (λ (x : ℕ). text x 32 (start .args .bias)) _ _ _ _ (at-count-of .count-of .ensures)
-          (at-text2 .text2 .ensures g) (c .go-on2 .ensures .1 _ _ _ g _)),
+      λ _. rw (le-ltb _ _ (at-if1 .if1 .left), lt-ltb _ _ (at-if2 .if2 .taken), ← at-count-of .count-of .ensures)
+          (seq (at-text2 .text2 .ensures _) (c .go-on2 .ensures .1 _)),
     )
 
 repeat-text-requires : tie.Need-repeat-text-requires
@@ -85,18 +80,16 @@ same-length-9 : tie.Need-same-length-9
 same-length-9 c = search needs
 
 returns-3 : tie.Need-returns-3
-unfolding textCode
+unfolding textCode goOn
 returns-3 c =
     let at-repeat-text = c .before .before .before .before .before .before .before in
     let at-if3 = at-repeat-text .before .before .before .before in
     let at-if2 = at-if3 .before in
     let at-if1 = at-if2 .before in
-    let at-count-of = at-if1 .before in
-    let start = at-count-of .before .before .before .before .before in (
+    let at-count-of = at-if1 .before in (
       omega (arith, c .go-on3 .ensures .0),
-      λ g. rw (le-ltb _ _ (at-if1 .if1 .left), le-ltb _ _ (at-if2 .if2 .left), lt-ltb _ _ (at-if3 .if3 .taken))
-          (counted _ _ _ _ (λ (x : ℕ). repeatText x 1 (start .args .bias)) _ _ _ _ (at-count-of .count-of .ensures)
-          (at-repeat-text .repeat-text .ensures g) (c .go-on3 .ensures .1 _ _ _ g _)),
+      λ _. rw (le-ltb _ _ (at-if1 .if1 .left), le-ltb _ _ (at-if2 .if2 .left), lt-ltb _ _ (at-if3 .if3 .taken), ← at-count-of .count-of .ensures)
+          (seq (at-repeat-text .repeat-text .ensures _) (c .go-on3 .ensures .1 _)),
     )
 
 repeat-text-requires-2 : tie.Need-repeat-text-requires-2
@@ -115,18 +108,16 @@ same-length-12 : tie.Need-same-length-12
 same-length-12 c = search needs
 
 returns-4 : tie.Need-returns-4
-unfolding textCode
+unfolding textCode goOn
 returns-4 c =
     let at-repeat-text2 = c .before .before .before .before .before .before .before in
     let at-if3 = at-repeat-text2 .before .before .before .before in
     let at-if2 = at-if3 .before in
     let at-if1 = at-if2 .before in
-    let at-count-of = at-if1 .before in
-    let start = at-count-of .before .before .before .before .before in (
+    let at-count-of = at-if1 .before in (
       omega (arith, c .go-on4 .ensures .0),
-      λ g. rw (le-ltb _ _ (at-if1 .if1 .left), le-ltb _ _ (at-if2 .if2 .left), le-ltb _ _ (at-if3 .if3 .left))
-          (counted _ _ _ _ (λ (x : ℕ). repeatText x 32 (start .args .bias)) _ _ _ _ (at-count-of .count-of .ensures)
-          (at-repeat-text2 .repeat-text2 .ensures g) (c .go-on4 .ensures .1 _ _ _ g _)),
+      λ _. rw (le-ltb _ _ (at-if1 .if1 .left), le-ltb _ _ (at-if2 .if2 .left), le-ltb _ _ (at-if3 .if3 .left), ← at-count-of .count-of .ensures)
+          (seq (at-repeat-text2 .repeat-text2 .ensures _) (c .go-on4 .ensures .1 _)),
     )
 
 pub text-code-spec : {M : Type 1} → statement M

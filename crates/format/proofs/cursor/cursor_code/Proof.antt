@@ -1,6 +1,6 @@
 -- Row and column stored, the byte read, and stored.
 use Rattle.rules.specs.Format.{cursorCode}
-use Rattle.rules.proofs.Laws.{bind, seq}
+use Rattle.machine.proofs.Chain.{bind, seq}
 use borrow.Author.Needs.{needs}
 use Rattle.format.proofs.cursor.cursor_code.Statement.{statement}
 use Rattle.format.proofs.cursor.cursor_code.Tie as tie
@@ -25,9 +25,9 @@ unfolding cursorCode
 returns c =
     let at-next-byte = c .before .before .before .before .before .before .before in
     let at-settle-cursor = at-next-byte .before .before .before .before .before in
-    λ v g.
-    seq _ _ _ _ _ _ (at-settle-cursor .settle-cursor .ensures _ v g)
-    (bind _ _ _ _ _ _ _ (at-next-byte .next-byte .ensures _ v g _) (c .before .before .before .before .poke-pad .ensures _ v g))
+    λ _.
+    seq (at-settle-cursor .settle-cursor .ensures _)
+    (bind _ (at-next-byte .next-byte .ensures _) (c .before .before .before .before .poke-pad .ensures _))
 
 pub cursor-code-spec : {M : Type 1} → statement M
 cursor-code-spec =

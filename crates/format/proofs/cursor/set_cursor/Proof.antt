@@ -1,9 +1,8 @@
 -- Row and column stored: of the row a store keeps a byte.
-use mathlib.Core.Path.{_∙_}
 use Rattle.rules.specs.Machine.{cpu}
 use Rattle.rules.specs.Rules.{poke}
 use Rattle.rules.specs.Format.{setCursor}
-use Rattle.rules.proofs.Laws.{seq, via, kept-byte}
+use Rattle.machine.proofs.Chain.{seq, via, kept-byte}
 use borrow.Author.Needs.{needs}
 use Rattle.format.proofs.cursor.set_cursor.Statement.{statement}
 use Rattle.format.proofs.cursor.set_cursor.Tie as tie
@@ -32,8 +31,8 @@ returns c =
     let at-poke-pad = c .before .before .before .before .before .before .before .before .before .before .before in
     let at-column-of = at-poke-pad .before .before .before in
     let at-row-of = at-column-of .before in
-    λ i v g. seq _ _ _ _ _ _ (at-poke-pad .poke-pad .ensures i v g ∙ kept-byte i _ _ _ _ _ (at-row-of .row-of .ensures))
-    (via _ _ _ (poke cpu _) _ _ (at-column-of .column-of .ensures) (c .before .before .before .before .poke-pad2 .ensures i v g))
+    λ _. seq (kept-byte (at-row-of .row-of .ensures) (at-poke-pad .poke-pad .ensures _))
+    (via (poke cpu _) (at-column-of .column-of .ensures) (c .before .before .before .before .poke-pad2 .ensures _))
 
 pub set-cursor-spec : {M : Type 1} → statement M
 set-cursor-spec =

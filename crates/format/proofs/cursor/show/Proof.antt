@@ -1,6 +1,6 @@
 -- The position, the character there, and the next position.
 use Rattle.rules.specs.Format.{show, setCursor}
-use Rattle.rules.proofs.Laws.{bind, seq, via}
+use Rattle.machine.proofs.Chain.{bind, seq, via}
 use borrow.Author.Needs.{needs}
 use Rattle.format.proofs.cursor.show.Statement.{statement}
 use Rattle.format.proofs.cursor.show.Tie as tie
@@ -35,8 +35,8 @@ returns c =
     let at-wrap-show = c .before .before .before .before .before .before .before in
     let at-draw = at-wrap-show .before .before .before .before .before .before in
     let at-position = at-draw .before .before .before in
-    λ i g. bind _ _ _ _ _ _ _ (at-position .position .ensures .1 i _ g _) (seq _ _ _ _ _ _ (at-draw .draw .ensures i _ g)
-    (via _ _ _ setCursor _ _ (at-wrap-show .wrap-show .ensures) (c .before .before .before .before .set-cursor .ensures i _ g)))
+    λ _. bind _ (at-position .position .ensures .1 _) (seq (at-draw .draw .ensures _)
+    (via setCursor (at-wrap-show .wrap-show .ensures) (c .before .before .before .before .set-cursor .ensures _)))
 
 pub show-spec : {M : Type 1} → statement M
 show-spec =

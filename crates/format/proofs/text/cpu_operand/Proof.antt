@@ -1,13 +1,11 @@
 -- The operand, the need that it is a pad cell, and its offset.
 use mathlib.Core.Path.{refl}
 use mathlib.Core.Bool.{Bool}
-use Prim.Native.Nat.{ℕ}
 use Rattle.rules.specs.Answers.{offCpu}
-use Rattle.rules.specs.Rules.{Rule, _>>_, give, need}
-use Rattle.rules.specs.Operands.{Cell}
-use Rattle.rules.specs.Format.{isCpu, cpuOperand}
-use Rattle.rules.proofs.Laws.{seq, via}
-use Rattle.operand.proofs.Reach.{with-place}
+use Rattle.rules.specs.Rules.{give, need}
+use Rattle.rules.specs.Format.{cpuOperand}
+use Rattle.machine.proofs.Chain.{bind, seq, via}
+use Rattle.operand.proofs.Reach.{apart}
 use borrow.Author.Needs.{needs}
 use Rattle.format.proofs.text.cpu_operand.Statement.{statement}
 use Rattle.format.proofs.text.cpu_operand.Tie as tie
@@ -44,11 +42,10 @@ unfolding cpuOperand
 returns c =
     let at-now-of = c .before .before .before .before .before in
     let at-operand = at-now-of .before .before .before .before .before in
-    let rest : Cell → Rule ℕ = λ x. need (isCpu (x .kind)) offCpu >> give (x .at) in
-    λ v g.
-    with-place _ _ _ _ _ _ _ _ _ _ _ rest (at-operand .operand .ensures .1 v g) (at-now-of .now-of .ensures) (c .before .before .before .before .place-of .ensures)
-    (seq _ _ _ _ _ _ (via _ _ _ (λ (t : Bool). need t offCpu) _ _ (c .before .before .before .is-cpu .ensures) (c .before .before .need .ensures offCpu refl _ _ v g _))
-    (via _ _ _ give _ _ (c .before .offset-of .ensures) (c .give-word .ensures .1 _ _ v g _)))
+    λ _.
+    bind _ (apart (at-operand .operand .result) (at-operand .operand .ensures .1 _) (at-now-of .now-of .ensures) (c .before .before .before .before .place-of .ensures))
+    (seq (via (λ (t : Bool). need t offCpu) (c .before .before .before .is-cpu .ensures) (c .before .before .need .ensures offCpu refl _))
+    (via give (c .before .offset-of .ensures) (c .give-word .ensures .1 _)))
 
 pub cpu-operand-spec : {M : Type 1} → statement M
 cpu-operand-spec =

@@ -1,6 +1,6 @@
 -- The operand, and the characters from there on.
 use Rattle.rules.specs.Format.{operandText}
-use Rattle.rules.proofs.Laws.{bind}
+use Rattle.machine.proofs.Chain.{bind}
 use borrow.Author.Needs.{needs}
 use Rattle.format.proofs.text.operand_text.Statement.{statement}
 use Rattle.format.proofs.text.operand_text.Tie as tie
@@ -28,7 +28,7 @@ unfolding operandText
 returns c =
     let at-pad-text = c .before .before .before .before .before .before in
     let at-cpu-operand = at-pad-text .before .before .before .before .before .before .before .before .before in
-    λ g. bind _ _ _ _ _ _ _ (at-cpu-operand .cpu-operand .ensures _ g) (at-pad-text .pad-text .ensures _ g)
+    λ _. bind _ (at-cpu-operand .cpu-operand .ensures _) (at-pad-text .pad-text .ensures _)
 
 pub operand-text-spec : {M : Type 1} → statement M
 operand-text-spec =

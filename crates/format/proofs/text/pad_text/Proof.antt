@@ -1,28 +1,28 @@
--- The invariant: what is left to show, shown now, is what the whole shows, and the lengths are as they were. A refused turn leaves the rest still.
-use mathlib.Core.Path.{_≡_, refl, _∙_}
-use mathlib.Core.List.{List}
-use Prim.Native.Nat.{ℕ, _+_, _≤_}
+-- The invariant: of the whole, this much is left to show, and the lengths are as they were. A refused turn leaves the rest still.
+use mathlib.Core.Path.{_≡_, refl}
+use Prim.Native.Nat.{_+_, _≤_}
 use native.Mathlib.Omega.{arith}
 use lib.ListN.{length}
 use borrow.Author.Needs.{needs}
-use Rattle.rules.specs.Rules.{after}
 use Rattle.rules.specs.Format.{padText}
-use Rattle.machine.specs.Said.{out}
+use Rattle.rules.proofs.Loops.{down, none-left}
+use Rattle.machine.specs.Said.{_&_, padFrom, vramFrom, journalFrom, Leaves}
+use Rattle.machine.proofs.Chain.{whole, turns, ends, over}
 use Rattle.machine.proofs.Acts.{still}
-use Rattle.format.proofs.Laws.{pad-turns, turn-more, turn-none}
+use Rattle.format.proofs.Laws.{pad-turns}
 use Rattle.format.proofs.text.pad_text.Statement.{statement}
 use Rattle.format.proofs.text.pad_text.Tie as tie
 
 abbrev Inv-loop : tie.InvT-loop
 Inv-loop pad₀ vram₀ journal₀ n a bias x₀ left₀ at₀ pad vram journal x left at =
-    ((i g : List ℕ) → after i (out pad vram g journal x) (padText left at bias) ≡ after i (out pad₀ vram₀ g journal₀ x₀) (padText n a bias))
+    Leaves (padText n a bias) (padText left at bias) (padFrom pad₀ pad & vramFrom vram₀ vram & journalFrom journal₀ journal) x₀ x
     × (length pad ≡ length pad₀) × (length vram ≡ length vram₀) × (length journal ≡ length journal₀) × (at + left ≤ a + n)
 
 abbrev μ-loop : tie.MeasureT-loop
 μ-loop pad₀ vram₀ journal₀ n a bias x₀ left₀ at₀ pad vram journal x left at = left
 
 loop-holds : tie.Need-loop-holds Inv-loop μ-loop
-loop-holds c = (λ i g. refl, refl, refl, refl, omega arith)
+loop-holds c = (λ _. whole refl, refl, refl, refl, omega arith)
 
 show-cell-requires : tie.Need-show-cell-requires Inv-loop μ-loop
 show-cell-requires c κs = search needs
@@ -41,8 +41,7 @@ returns c =
     let at-show-cell = c .before .before .before .before .before .before .before .before in
     let at-loop-test = at-show-cell .before .before .before .before in
     let at-loop = at-loop-test .before in
-    λ i g.
-    still _ _ _ _ _ (c .if1 .taken) ∙ turn-more (pad-turns _) _ _ _ _ _ (at-loop-test .loop-test .taken) (at-show-cell .show-cell .ensures i g) ∙ at-loop .loop .inv .0 i g
+    λ _. ends (turns (at-loop .loop .inv .0 _) (down (pad-turns _) _ (at-loop-test .loop-test .taken)) (at-show-cell .show-cell .ensures _)) (still (c .if1 .taken))
 
 sub-left : tie.Need-sub-left Inv-loop μ-loop
 sub-left c = search needs
@@ -58,7 +57,7 @@ loop-again c =
     let at-show-cell = c .before .before .before .before .before .before .before .before in
     let at-loop-test = at-show-cell .before .before .before .before in
     let at-loop = at-loop-test .before in (
-      λ i g. turn-more (pad-turns _) _ _ _ _ _ (at-loop-test .loop-test .taken) (at-show-cell .show-cell .ensures i g) ∙ at-loop .loop .inv .0 i g,
+      λ _. turns (at-loop .loop .inv .0 _) (down (pad-turns _) _ (at-loop-test .loop-test .taken)) (at-show-cell .show-cell .ensures _),
       search needs,
       search needs,
       search needs,
@@ -75,7 +74,7 @@ same-length-6 : tie.Need-same-length-6 Inv-loop μ-loop
 same-length-6 c = search needs
 
 returns-2 : tie.Need-returns-2 Inv-loop μ-loop
-returns-2 c = λ i g. turn-none (pad-turns _) _ _ _ _ (omega arith) ∙ c .before .loop .inv .0 i g
+returns-2 c = λ _. over (c .before .loop .inv .0 _) (none-left (pad-turns _) _ (omega arith))
 
 pub pad-text-spec : {M : Type 1} → statement M
 pad-text-spec =

@@ -1,6 +1,6 @@
 -- A character read, and shown n times with the bias.
 use Rattle.rules.specs.Format.{showTimes, repeatText}
-use Rattle.rules.proofs.Laws.{bind, via}
+use Rattle.machine.proofs.Chain.{bind, via}
 use borrow.Author.Needs.{needs}
 use Rattle.format.proofs.text.repeat_text.Statement.{statement}
 use Rattle.format.proofs.text.repeat_text.Tie as tie
@@ -29,9 +29,9 @@ returns c =
     let at-show-times = c .before .before .before .before .before .before in
     let at-wrapping-add-u8 = at-show-times .before .before .before .before in
     let at-next-byte = at-wrapping-add-u8 .before in
-    λ g.
-    bind _ _ _ _ _ _ _ (at-next-byte .next-byte .ensures _ _ g _)
-    (via _ _ _ (showTimes _ _) _ _ (at-wrapping-add-u8 .wrapping-add-u8 .ensures) (at-show-times .show-times .ensures _ g))
+    λ _.
+    bind _ (at-next-byte .next-byte .ensures _)
+    (via (showTimes _ _) (at-wrapping-add-u8 .wrapping-add-u8 .ensures) (at-show-times .show-times .ensures _))
 
 pub repeat-text-spec : {M : Type 1} → statement M
 repeat-text-spec =

@@ -1,6 +1,6 @@
 -- A character read from the pad, and shown with the bias.
 use Rattle.rules.specs.Format.{show, showCell}
-use Rattle.rules.proofs.Laws.{bind, via}
+use Rattle.machine.proofs.Chain.{bind, via}
 use borrow.Author.Needs.{needs}
 use Rattle.format.proofs.text.show_cell.Statement.{statement}
 use Rattle.format.proofs.text.show_cell.Tie as tie
@@ -29,7 +29,7 @@ returns c =
     let at-show = c .before .before .before .before .before .before in
     let at-wrapping-add-u8 = at-show .before .before .before .before in
     let at-peek-pad = at-wrapping-add-u8 .before in
-    λ i g. bind _ _ _ _ _ _ _ (at-peek-pad .peek-pad .ensures i _ g _) (via _ _ _ (show _) _ _ (at-wrapping-add-u8 .wrapping-add-u8 .ensures) (at-show .show .ensures i g))
+    λ _. bind _ (at-peek-pad .peek-pad .ensures _) (via (show _) (at-wrapping-add-u8 .wrapping-add-u8 .ensures) (at-show .show .ensures _))
 
 pub show-cell-spec : {M : Type 1} → statement M
 show-cell-spec =

@@ -1,6 +1,6 @@
 -- A character read, and shown with the bias.
 use Rattle.rules.specs.Format.{show, showNext}
-use Rattle.rules.proofs.Laws.{bind, via}
+use Rattle.machine.proofs.Chain.{bind, via}
 use borrow.Author.Needs.{needs}
 use Rattle.format.proofs.text.show_next.Statement.{statement}
 use Rattle.format.proofs.text.show_next.Tie as tie
@@ -29,7 +29,7 @@ returns c =
     let at-show = c .before .before .before .before .before .before in
     let at-wrapping-add-u8 = at-show .before .before .before .before in
     let at-next-byte = at-wrapping-add-u8 .before in
-    λ g. bind _ _ _ _ _ _ _ (at-next-byte .next-byte .ensures _ _ g _) (via _ _ _ (show _) _ _ (at-wrapping-add-u8 .wrapping-add-u8 .ensures) (at-show .show .ensures _ g))
+    λ _. bind _ (at-next-byte .next-byte .ensures _) (via (show _) (at-wrapping-add-u8 .wrapping-add-u8 .ensures) (at-show .show .ensures _))
 
 pub show-next-spec : {M : Type 1} → statement M
 show-next-spec =

@@ -1,28 +1,27 @@
--- The invariant: what is left to show, shown now, is what the whole shows, and the lengths are as they were. A refused turn leaves the rest still.
-use mathlib.Core.Path.{_≡_, refl, _∙_}
-use mathlib.Core.List.{List}
-use Prim.Native.Nat.{ℕ}
+-- The invariant: of the whole, this much is left to show, and the lengths are as they were. A refused turn leaves the rest still.
+use mathlib.Core.Path.{_≡_, refl}
 use native.Mathlib.Omega.{arith}
 use lib.ListN.{length}
 use borrow.Author.Needs.{needs}
-use Rattle.rules.specs.Rules.{after}
 use Rattle.rules.specs.Format.{showTimes}
-use Rattle.machine.specs.Said.{out}
+use Rattle.rules.proofs.Loops.{down, none-left}
+use Rattle.machine.specs.Said.{_&_, padFrom, vramFrom, journalFrom, Leaves}
+use Rattle.machine.proofs.Chain.{whole, turns, ends, over}
 use Rattle.machine.proofs.Acts.{still}
-use Rattle.format.proofs.Laws.{times-turns, turn-more, turn-none}
+use Rattle.format.proofs.Laws.{times-turns}
 use Rattle.format.proofs.text.show_times.Statement.{statement}
 use Rattle.format.proofs.text.show_times.Tie as tie
 
 abbrev Inv-loop : tie.InvT-loop
 Inv-loop pad₀ vram₀ journal₀ n step b x₀ left₀ pad vram journal x left =
-    ((i g : List ℕ) → after i (out pad vram g journal x) (showTimes left step b) ≡ after i (out pad₀ vram₀ g journal₀ x₀) (showTimes n step b))
+    Leaves (showTimes n step b) (showTimes left step b) (padFrom pad₀ pad & vramFrom vram₀ vram & journalFrom journal₀ journal) x₀ x
     × (length pad ≡ length pad₀) × (length vram ≡ length vram₀) × (length journal ≡ length journal₀)
 
 abbrev μ-loop : tie.MeasureT-loop
 μ-loop pad₀ vram₀ journal₀ n step b x₀ left₀ pad vram journal x left = left
 
 loop-holds : tie.Need-loop-holds Inv-loop μ-loop
-loop-holds c = (λ i g. refl, refl, refl, refl)
+loop-holds c = (λ _. whole refl, refl, refl, refl)
 
 show-requires : tie.Need-show-requires Inv-loop μ-loop
 show-requires c κs = search needs
@@ -41,8 +40,7 @@ returns c =
     let at-show = c .before .before .before .before .before .before .before .before in
     let at-loop-test = at-show .before .before .before .before in
     let at-loop = at-loop-test .before in
-    λ i g.
-    still _ _ _ _ _ (c .if1 .taken) ∙ turn-more (times-turns _ _) _ _ _ _ 0 (at-loop-test .loop-test .taken) (at-show .show .ensures i g) ∙ at-loop .loop .inv .0 i g
+    λ _. ends (turns (at-loop .loop .inv .0 _) (down (times-turns _ _) 0 (at-loop-test .loop-test .taken)) (at-show .show .ensures _)) (still (c .if1 .taken))
 
 sub-left : tie.Need-sub-left Inv-loop μ-loop
 sub-left c = search needs
@@ -55,7 +53,7 @@ loop-again c =
     let at-show = c .before .before .before .before .before .before .before .before in
     let at-loop-test = at-show .before .before .before .before in
     let at-loop = at-loop-test .before in (
-      λ i g. turn-more (times-turns _ _) _ _ _ _ 0 (at-loop-test .loop-test .taken) (at-show .show .ensures i g) ∙ at-loop .loop .inv .0 i g,
+      λ _. turns (at-loop .loop .inv .0 _) (down (times-turns _ _) 0 (at-loop-test .loop-test .taken)) (at-show .show .ensures _),
       search needs,
       search needs,
       search needs,
@@ -71,7 +69,7 @@ same-length-6 : tie.Need-same-length-6 Inv-loop μ-loop
 same-length-6 c = search needs
 
 returns-2 : tie.Need-returns-2 Inv-loop μ-loop
-returns-2 c = λ i g. turn-none (times-turns _ _) _ _ _ 0 (omega arith) ∙ c .before .loop .inv .0 i g
+returns-2 c = λ _. over (c .before .loop .inv .0 _) (none-left (times-turns _ _) 0 (omega arith))
 
 pub show-times-spec : {M : Type 1} → statement M
 show-times-spec =

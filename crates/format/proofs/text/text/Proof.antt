@@ -1,28 +1,27 @@
--- The invariant: what is left to show, shown now, is what the whole shows, and the lengths are as they were. A refused turn leaves the rest still.
-use mathlib.Core.Path.{_≡_, refl, _∙_}
-use mathlib.Core.List.{List}
-use Prim.Native.Nat.{ℕ}
+-- The invariant: of the whole, this much is left to show, and the lengths are as they were. A refused turn leaves the rest still.
+use mathlib.Core.Path.{_≡_, refl}
 use native.Mathlib.Omega.{arith}
 use lib.ListN.{length}
 use borrow.Author.Needs.{needs}
-use Rattle.rules.specs.Rules.{after}
 use Rattle.rules.specs.Format.{text}
-use Rattle.machine.specs.Said.{out}
+use Rattle.rules.proofs.Loops.{down, none-left}
+use Rattle.machine.specs.Said.{_&_, imageFrom, padFrom, vramFrom, journalFrom, Leaves}
+use Rattle.machine.proofs.Chain.{whole, turns, ends, over}
 use Rattle.machine.proofs.Acts.{still}
-use Rattle.format.proofs.Laws.{text-turns, turn-more, turn-none}
+use Rattle.format.proofs.Laws.{text-turns}
 use Rattle.format.proofs.text.text.Statement.{statement}
 use Rattle.format.proofs.text.text.Tie as tie
 
 abbrev Inv-loop : tie.InvT-loop
 Inv-loop image pad₀ vram₀ journal₀ n step bias x₀ left₀ pad vram journal x left =
-    ((g : List ℕ) → after image (out pad vram g journal x) (text left step bias) ≡ after image (out pad₀ vram₀ g journal₀ x₀) (text n step bias))
+    Leaves (text n step bias) (text left step bias) (imageFrom image image & padFrom pad₀ pad & vramFrom vram₀ vram & journalFrom journal₀ journal) x₀ x
     × (length pad ≡ length pad₀) × (length vram ≡ length vram₀) × (length journal ≡ length journal₀)
 
 abbrev μ-loop : tie.MeasureT-loop
 μ-loop image pad₀ vram₀ journal₀ n step bias x₀ left₀ pad vram journal x left = left
 
 loop-holds : tie.Need-loop-holds Inv-loop μ-loop
-loop-holds c = (λ g. refl, refl, refl, refl)
+loop-holds c = (λ _. whole refl, refl, refl, refl)
 
 show-next-requires : tie.Need-show-next-requires Inv-loop μ-loop
 show-next-requires c κs = search needs
@@ -41,8 +40,7 @@ returns c =
     let at-show-next = c .before .before .before .before .before .before .before .before in
     let at-loop-test = at-show-next .before .before .before .before in
     let at-loop = at-loop-test .before in
-    λ g.
-    still _ _ _ _ _ (c .if1 .taken) ∙ turn-more (text-turns _ _) _ _ _ _ 0 (at-loop-test .loop-test .taken) (at-show-next .show-next .ensures g) ∙ at-loop .loop .inv .0 g
+    λ _. ends (turns (at-loop .loop .inv .0 _) (down (text-turns _ _) 0 (at-loop-test .loop-test .taken)) (at-show-next .show-next .ensures _)) (still (c .if1 .taken))
 
 sub-left : tie.Need-sub-left Inv-loop μ-loop
 sub-left c = search needs
@@ -55,7 +53,7 @@ loop-again c =
     let at-show-next = c .before .before .before .before .before .before .before .before in
     let at-loop-test = at-show-next .before .before .before .before in
     let at-loop = at-loop-test .before in (
-      λ g. turn-more (text-turns _ _) _ _ _ _ 0 (at-loop-test .loop-test .taken) (at-show-next .show-next .ensures g) ∙ at-loop .loop .inv .0 g,
+      λ _. turns (at-loop .loop .inv .0 _) (down (text-turns _ _) 0 (at-loop-test .loop-test .taken)) (at-show-next .show-next .ensures _),
       search needs,
       search needs,
       search needs,
@@ -71,7 +69,7 @@ same-length-6 : tie.Need-same-length-6 Inv-loop μ-loop
 same-length-6 c = search needs
 
 returns-2 : tie.Need-returns-2 Inv-loop μ-loop
-returns-2 c = λ g. turn-none (text-turns _ _) _ _ _ 0 (omega arith) ∙ c .before .loop .inv .0 g
+returns-2 c = λ _. over (c .before .loop .inv .0 _) (none-left (text-turns _ _) 0 (omega arith))
 
 pub text-spec : {M : Type 1} → statement M
 text-spec =

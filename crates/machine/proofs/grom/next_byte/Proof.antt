@@ -1,6 +1,6 @@
 -- Still after a refusal; 6 beyond the image; else the byte, and pc moved on.
 use mathlib.Core.Path.{refl}
-use Rattle.machine.proofs.Acts.{still-valued, next-beyond, next-read}
+use Rattle.machine.proofs.Acts.{still, next-beyond, next-read}
 use borrow.Author.Needs.{needs}
 use Rattle.machine.proofs.grom.next_byte.Statement.{statement}
 use Rattle.machine.proofs.grom.next_byte.Tie as tie
@@ -9,10 +9,10 @@ cast-at : tie.Need-cast-at
 cast-at c = search needs
 
 returns : tie.Need-returns
-returns c = λ p v g j. still-valued _ _ _ _ _ _ (c .if1 .taken)
+returns c = λ _. still (c .if1 .taken)
 
 returns-2 : tie.Need-returns-2
-returns-2 c = λ p v g j. next-beyond _ _ _ (c .before .if1 .left) _ (c .if2 .taken)
+returns-2 c = λ _. next-beyond (c .before .if1 .left) (c .if2 .taken)
 
 onward-requires : tie.Need-onward-requires
 onward-requires c κs = search needs
@@ -21,7 +21,7 @@ shared-slice-read-t9 : tie.Need-shared-slice-read-t9
 shared-slice-read-t9 c = search needs
 
 returns-3 : tie.Need-returns-3
-returns-3 c = λ p v g j. next-read _ _ _ (c .before .before .before .if1 .left) _ _ (c .before .before .if2 .left) refl (c .before .onward .ensures)
+returns-3 c = λ _. next-read (c .before .before .before .if1 .left) (c .before .before .if2 .left) refl (c .before .onward .ensures)
 
 pub next-byte-spec : {M : Type 1} → statement M
 next-byte-spec =

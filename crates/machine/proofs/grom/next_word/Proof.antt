@@ -1,6 +1,6 @@
 -- Two bytes in a row, and the word of them.
 use Rattle.rules.specs.Rules.{give, nextWord}
-use Rattle.rules.proofs.Laws.{bind, via}
+use Rattle.machine.proofs.Chain.{bind, via}
 use borrow.Author.Needs.{needs}
 use Rattle.machine.proofs.grom.next_word.Statement.{statement}
 use Rattle.machine.proofs.grom.next_word.Tie as tie
@@ -20,9 +20,9 @@ give-word-requires c κs = search needs
 returns : tie.Need-returns
 unfolding nextWord
 returns c =
-    λ p v g j.
-    bind _ _ _ _ _ _ _ (c .before .before .before .next-byte .ensures p v g j) (bind _ _ _ _ _ _ _ (c .before .before .next-byte2 .ensures p v g j)
-    (via _ _ _ give _ _ (c .before .word-of .ensures) (c .give-word .ensures .1 _ p v g j)))
+    λ _.
+    bind _ (c .before .before .before .next-byte .ensures _) (bind _ (c .before .before .next-byte2 .ensures _)
+    (via give (c .before .word-of .ensures) (c .give-word .ensures .1 _)))
 
 pub next-word-spec : {M : Type 1} → statement M
 next-word-spec =

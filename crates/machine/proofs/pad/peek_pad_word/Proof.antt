@@ -1,6 +1,6 @@
 -- Two cells in a row, and the word of them.
 use Rattle.rules.specs.Rules.{give, peekWord}
-use Rattle.rules.proofs.Laws.{bind, via}
+use Rattle.machine.proofs.Chain.{bind, via}
 use borrow.Author.Needs.{needs}
 use Rattle.machine.proofs.pad.peek_pad_word.Statement.{statement}
 use Rattle.machine.proofs.pad.peek_pad_word.Tie as tie
@@ -23,9 +23,9 @@ give-word-requires c κs = search needs
 returns : tie.Need-returns
 unfolding peekWord
 returns c =
-    λ i v g j.
-    bind _ _ _ _ _ _ _ (c .before .before .before .peek-pad .ensures i v g j) (bind _ _ _ _ _ _ _ (c .before .before .peek-pad2 .ensures i v g j)
-    (via _ _ _ give _ _ (c .before .word-of .ensures) (c .give-word .ensures .1 i _ v g j)))
+    λ _.
+    bind _ (c .before .before .before .peek-pad .ensures _) (bind _ (c .before .before .peek-pad2 .ensures _)
+    (via give (c .before .word-of .ensures) (c .give-word .ensures .1 _)))
 
 pub peek-pad-word-spec : {M : Type 1} → statement M
 peek-pad-word-spec =

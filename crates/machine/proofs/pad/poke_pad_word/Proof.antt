@@ -2,7 +2,7 @@
 use Rattle.rules.specs.Machine.{cpu}
 use Rattle.rules.specs.Rules.{poke}
 use Rattle.rules.specs.Operands.{pokeWord}
-use Rattle.rules.proofs.Laws.{seq, via}
+use Rattle.machine.proofs.Chain.{seq, via}
 use borrow.Author.Needs.{needs}
 use Rattle.machine.proofs.pad.poke_pad_word.Statement.{statement}
 use Rattle.machine.proofs.pad.poke_pad_word.Tie as tie
@@ -34,9 +34,9 @@ returns c =
     let at-poke-pad = c .before .before .before .before .before .before .before .before .before .before .before in
     let at-low-of = at-poke-pad .before .before .before in
     let at-high-of = at-low-of .before in
-    λ i v g.
-    seq _ _ _ _ _ _ (via _ _ _ (poke cpu _) _ _ (at-high-of .high-of .ensures) (at-poke-pad .poke-pad .ensures i v g))
-    (via _ _ _ (poke cpu _) _ _ (at-low-of .low-of .ensures) (c .before .before .before .before .poke-pad2 .ensures i v g))
+    λ _.
+    seq (via (poke cpu _) (at-high-of .high-of .ensures) (at-poke-pad .poke-pad .ensures _))
+    (via (poke cpu _) (at-low-of .low-of .ensures) (c .before .before .before .before .poke-pad2 .ensures _))
 
 pub poke-pad-word-spec : {M : Type 1} → statement M
 poke-pad-word-spec =

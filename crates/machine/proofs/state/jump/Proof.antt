@@ -4,10 +4,10 @@ use Rattle.machine.proofs.state.jump.Statement.{statement}
 use Rattle.machine.proofs.state.jump.Tie as tie
 
 returns : tie.Need-returns
-returns c = λ i p v g j. still i _ _ _ _ (c .if1 .taken)
+returns c = λ _. still (c .if1 .taken)
 
 returns-2 : tie.Need-returns-2
-returns-2 c = λ i p v g j. jumped i _ _ _ (c .if1 .left) (c .before .before .fits .a .fits)
+returns-2 c = λ _. jumped (c .if1 .left) (c .before .before .fits .a .fits)
 
 pub jump-spec : {M : Type 1} → statement M
 jump-spec = tie.close (tie.spec returns returns-2)

@@ -4,13 +4,13 @@ use Rattle.machine.proofs.state.need.Statement.{statement}
 use Rattle.machine.proofs.state.need.Tie as tie
 
 returns : tie.Need-returns
-returns c = λ w e i p v g j. still i _ _ _ _ (c .if1 .taken)
+returns c = λ w e _. still (c .if1 .taken)
 
 returns-2 : tie.Need-returns-2
-returns-2 c = λ w e i p v g j. need-holds i _ _ _ _ w (c .if2 .taken)
+returns-2 c = λ w e _. need-holds w (c .if2 .taken)
 
 returns-3 : tie.Need-returns-3
-returns-3 c = λ w e i p v g j. need-fails i _ _ _ _ w (c .before .if1 .left) e (c .if2 .left)
+returns-3 c = λ w e _. need-fails w (c .before .if1 .left) e (c .if2 .left)
 
 pub need-spec : {M : Type 1} → statement M
 need-spec = tie.close (tie.spec returns returns-2 returns-3)

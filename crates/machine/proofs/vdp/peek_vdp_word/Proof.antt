@@ -1,6 +1,6 @@
 -- Two cells in a row, and the word of them.
 use Rattle.rules.specs.Rules.{give, peekWord}
-use Rattle.rules.proofs.Laws.{bind, via}
+use Rattle.machine.proofs.Chain.{bind, via}
 use borrow.Author.Needs.{needs}
 use Rattle.machine.proofs.vdp.peek_vdp_word.Statement.{statement}
 use Rattle.machine.proofs.vdp.peek_vdp_word.Tie as tie
@@ -23,9 +23,9 @@ give-word-requires c κs = search needs
 returns : tie.Need-returns
 unfolding peekWord
 returns c =
-    λ i p g j.
-    bind _ _ _ _ _ _ _ (c .before .before .before .peek-vdp .ensures i p g j) (bind _ _ _ _ _ _ _ (c .before .before .peek-vdp2 .ensures i p g j)
-    (via _ _ _ give _ _ (c .before .word-of .ensures) (c .give-word .ensures .1 i p _ g j)))
+    λ _.
+    bind _ (c .before .before .before .peek-vdp .ensures _) (bind _ (c .before .before .peek-vdp2 .ensures _)
+    (via give (c .before .word-of .ensures) (c .give-word .ensures .1 _)))
 
 pub peek-vdp-word-spec : {M : Type 1} → statement M
 peek-vdp-word-spec =

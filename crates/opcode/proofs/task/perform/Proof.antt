@@ -128,7 +128,7 @@ returns : tie.Need-returns
 unfolding ruleOf
 returns c =
     let at-enum-told = c .before .before .before .before .before .before .before in
-    rw (at-enum-told .enum-told .given .1) (c .before .before .before .before .rtn .ensures _ _ _)
+    λ _. rw (at-enum-told .enum-told .given .1) (c .before .before .before .before .rtn .ensures _)
 
 same-length-3 : tie.Need-same-length-3
 same-length-3 c = search needs
@@ -140,7 +140,7 @@ returns-2 : tie.Need-returns-2
 unfolding ruleOf
 returns-2 c =
     let at-enum-told2 = c .before .before .before .before .before .before .before in
-    rw (at-enum-told2 .enum-told2 .given .1) (c .before .before .before .before .rtnc .ensures _ _ _)
+    λ _. rw (at-enum-told2 .enum-told2 .given .1) (c .before .before .before .before .rtnc .ensures _)
 
 same-length-5 : tie.Need-same-length-5
 same-length-5 c = search needs
@@ -152,7 +152,7 @@ returns-3 : tie.Need-returns-3
 unfolding ruleOf
 returns-3 c =
     let at-enum-told3 = c .before .before .before .before .before .before .before in
-    rw (at-enum-told3 .enum-told3 .given .1) (c .before .before .before .before .rand .ensures _ _)
+    λ _. rw (at-enum-told3 .enum-told3 .given .1) (c .before .before .before .before .rand .ensures _)
 
 same-length-7 : tie.Need-same-length-7
 same-length-7 c = search needs
@@ -164,7 +164,7 @@ returns-4 : tie.Need-returns-4
 unfolding ruleOf
 returns-4 c =
     let at-enum-told4 = c .before .before .before .before .before .before .before in
-    rw (at-enum-told4 .enum-told4 .given .1) (c .before .before .before .before .back .ensures _ _)
+    λ _. rw (at-enum-told4 .enum-told4 .given .1) (c .before .before .before .before .back .ensures _)
 
 same-length-9 : tie.Need-same-length-9
 same-length-9 c = search needs
@@ -176,7 +176,7 @@ returns-5 : tie.Need-returns-5
 unfolding ruleOf
 returns-5 c =
     let at-enum-told5 = c .before .before .before .before .before .before .before in
-    rw (at-enum-told5 .enum-told5 .given .1) (c .before .before .before .before .long .ensures _ _)
+    λ _. rw (at-enum-told5 .enum-told5 .given .1) (c .before .before .before .before .long .ensures _)
 
 same-length-11 : tie.Need-same-length-11
 same-length-11 c = search needs
@@ -188,7 +188,7 @@ returns-6 : tie.Need-returns-6
 unfolding ruleOf
 returns-6 c =
     let at-enum-told6 = c .before .before .before .before .before .before .before in
-    rw (at-enum-told6 .enum-told6 .given .1) (c .before .before .before .before .call .ensures _ _)
+    λ _. rw (at-enum-told6 .enum-told6 .given .1) (c .before .before .before .before .call .ensures _)
 
 same-length-13 : tie.Need-same-length-13
 same-length-13 c = search needs
@@ -204,7 +204,7 @@ unfolding ruleOf
 returns-7 c =
     let at-all = c .before .before .before .before .before .before in
     let at-enum-told7 = at-all .before .before .before .before in
-    rw (at-enum-told7 .enum-told7 .given .1) (at-all .all .ensures _)
+    λ _. rw (at-enum-told7 .enum-told7 .given .1) (at-all .all .ensures _)
 
 same-length-16 : tie.Need-same-length-16
 same-length-16 c = search needs
@@ -220,7 +220,7 @@ unfolding ruleOf
 returns-8 c =
     let at-format = c .before .before .before .before .before .before in
     let at-enum-told8 = at-format .before .before .before .before in
-    rw (at-enum-told8 .enum-told8 .given .1) (at-format .format .ensures _)
+    λ _. rw (at-enum-told8 .enum-told8 .given .1) (at-format .format .ensures _)
 
 same-length-19 : tie.Need-same-length-19
 same-length-19 c = search needs
@@ -232,7 +232,7 @@ returns-9 : tie.Need-returns-9
 unfolding ruleOf
 returns-9 c =
     let at-task = c .before .before .before .before .before .before .before .before in
-    rw (at-task .task .given .1) (c .before .before .before .before .test-status .ensures _ _ _)
+    λ _. rw (at-task .task .given .1) (c .before .before .before .before .test-status .ensures _)
 
 same-length-21 : tie.Need-same-length-21
 same-length-21 c = search needs
@@ -251,7 +251,7 @@ unfolding ruleOf
 returns-10 c =
     let at-move-block = c .before .before .before .before .before .before .before .before in
     let at-task2 = at-move-block .before .before .before .before .before .before in
-    rw (at-task2 .task2 .given .1) (at-move-block .move-block .ensures)
+    λ _. rw (at-task2 .task2 .given .1) (at-move-block .move-block .ensures _)
 
 same-length-25 : tie.Need-same-length-25
 same-length-25 c = search needs
@@ -263,7 +263,7 @@ returns-11 : tie.Need-returns-11
 unfolding ruleOf
 returns-11 c =
     let at-task3 = c .before .before .before .before .before .before .before .before in
-    rw (at-task3 .task3 .given .1) (c .before .before .before .before .branch .ensures _ _)
+    λ _. rw (at-task3 .task3 .given .1) (c .before .before .before .before .branch .ensures _)
 
 same-length-27 : tie.Need-same-length-27
 same-length-27 c = search needs
@@ -279,7 +279,7 @@ unfolding ruleOf
 returns-12 c =
     let at-one = c .before .before .before .before .before .before in
     let at-task4 = at-one .before .before .before .before .before in
-    rw (at-task4 .task4 .given .1) (at-one .one .ensures _)
+    λ _. rw (at-task4 .task4 .given .1) (at-one .one .ensures _)
 
 same-length-30 : tie.Need-same-length-30
 same-length-30 c = search needs
@@ -295,7 +295,7 @@ unfolding ruleOf
 returns-13 c =
     let at-fetch = c .before .before .before .before .before .before in
     let at-task5 = at-fetch .before .before .before .before .before in
-    rw (at-task5 .task5 .given .1) (at-fetch .fetch .ensures _)
+    λ _. rw (at-task5 .task5 .given .1) (at-fetch .fetch .ensures _)
 
 same-length-33 : tie.Need-same-length-33
 same-length-33 c = search needs
@@ -310,7 +310,7 @@ returns-14 : tie.Need-returns-14
 unfolding ruleOf
 returns-14 c =
     let at-task6 = c .before .before .before .before .before .before .before .before .before in
-    rw (at-task6 .task6 .given .1) (c .before .before .before .before .case .ensures _)
+    λ _. rw (at-task6 .task6 .given .1) (c .before .before .before .before .case .ensures _)
 
 same-length-36 : tie.Need-same-length-36
 same-length-36 c = search needs
@@ -325,7 +325,7 @@ returns-15 : tie.Need-returns-15
 unfolding ruleOf
 returns-15 c =
     let at-task7 = c .before .before .before .before .before .before .before .before .before in
-    rw (at-task7 .task7 .given .1) (c .before .before .before .before .push .ensures _)
+    λ _. rw (at-task7 .task7 .given .1) (c .before .before .before .before .push .ensures _)
 
 same-length-39 : tie.Need-same-length-39
 same-length-39 c = search needs
@@ -341,7 +341,7 @@ unfolding ruleOf
 returns-16 c =
     let at-two = c .before .before .before .before .before .before in
     let at-task8 = at-two .before .before .before .before .before in
-    rw (at-task8 .task8 .given .1) (at-two .two .ensures _)
+    λ _. rw (at-task8 .task8 .given .1) (at-two .two .ensures _)
 
 same-length-42 : tie.Need-same-length-42
 same-length-42 c = search needs
@@ -357,7 +357,7 @@ unfolding ruleOf
 returns-17 c =
     let at-mul = c .before .before .before .before .before .before in
     let at-task9 = at-mul .before .before .before .before .before in
-    rw (at-task9 .task9 .given .1) (at-mul .mul .ensures _)
+    λ _. rw (at-task9 .task9 .given .1) (at-mul .mul .ensures _)
 
 same-length-45 : tie.Need-same-length-45
 same-length-45 c = search needs
@@ -373,7 +373,7 @@ unfolding ruleOf
 returns-18 c =
     let at-div = c .before .before .before .before .before .before in
     let at-task10 = at-div .before .before .before .before .before in
-    rw (at-task10 .task10 .given .1) (at-div .div .ensures _)
+    λ _. rw (at-task10 .task10 .given .1) (at-div .div .ensures _)
 
 same-length-48 : tie.Need-same-length-48
 same-length-48 c = search needs
@@ -389,7 +389,7 @@ unfolding ruleOf
 returns-19 c =
     let at-ex = c .before .before .before .before .before .before in
     let at-task11 = at-ex .before .before .before .before .before in
-    rw (at-task11 .task11 .given .1) (at-ex .ex .ensures _)
+    λ _. rw (at-task11 .task11 .given .1) (at-ex .ex .ensures _)
 
 pub perform-spec : {M : Type 1} → statement M
 perform-spec =

@@ -1,7 +1,7 @@
 -- The index byte, the pad word that it names, and the sum.
 use Rattle.rules.specs.Rules.{give}
 use Rattle.rules.specs.Operands.{addIndex}
-use Rattle.rules.proofs.Laws.{bind, via}
+use Rattle.machine.proofs.Chain.{bind, via}
 use borrow.Author.Needs.{needs}
 use Rattle.operand.proofs.decode.add_index.Statement.{statement}
 use Rattle.operand.proofs.decode.add_index.Tie as tie
@@ -24,9 +24,9 @@ give-word-requires c κs = search needs
 returns : tie.Need-returns
 unfolding addIndex
 returns c =
-    λ v g j.
-    bind _ _ _ _ _ _ _ (c .before .before .before .before .next-byte .ensures _ v g j) (bind _ _ _ _ _ _ _ (c .before .before .peek-pad-word .ensures _ v g j)
-    (via _ _ _ give _ _ (c .before .plus .ensures) (c .give-word .ensures .1 _ _ v g j)))
+    λ _.
+    bind _ (c .before .before .before .before .next-byte .ensures _) (bind _ (c .before .before .peek-pad-word .ensures _)
+    (via give (c .before .plus .ensures) (c .give-word .ensures .1 _)))
 
 pub add-index-spec : {M : Type 1} → statement M
 add-index-spec =

@@ -2,14 +2,14 @@
 use mathlib.Core.Path.{refl}
 use borrow.Author.Tests.{lt-ltb, le-ltb}
 use Rattle.rules.specs.Operands.{anyCell}
-use Rattle.rules.proofs.Laws.{gives}
+use Rattle.machine.proofs.Chain.{gives}
 use borrow.Author.Needs.{needs}
 use Rattle.operand.proofs.decode.any_cell.Statement.{statement}
 use Rattle.operand.proofs.decode.any_cell.Tie as tie
 
 returns : tie.Need-returns
 unfolding anyCell
-returns c = λ v g. rw (lt-ltb _ _ (c .if1 .taken)) (gives _ _ _ _ refl)
+returns c = λ _. rw (lt-ltb _ _ (c .if1 .taken)) (gives refl)
 
 far-cell-requires : tie.Need-far-cell-requires
 far-cell-requires c κs = search needs
@@ -24,7 +24,7 @@ returns-2 : tie.Need-returns-2
 unfolding anyCell
 returns-2 c =
     let at-if1 = c .before .before .before .before .before .before .before in
-    λ v g. rw (le-ltb _ _ (at-if1 .if1 .left)) (c .before .before .before .before .far-cell .ensures v g)
+    λ _. rw (le-ltb _ _ (at-if1 .if1 .left)) (c .before .before .before .before .far-cell .ensures _)
 
 pub any-cell-spec : {M : Type 1} → statement M
 any-cell-spec = tie.close (tie.spec returns far-cell-requires same-length same-length-2 returns-2)

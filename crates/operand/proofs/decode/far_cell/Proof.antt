@@ -1,8 +1,7 @@
 -- The offset, the index, and the cell by V and I, with the bits taken from the first byte.
 use mathlib.Core.Bool.{Bool}
 use Rattle.rules.specs.Operands.{offset, indexed, named, farCell}
-use Rattle.rules.proofs.Laws.{bind, via, via₂}
-use Rattle.rules.proofs.Laws.{bind, via}
+use Rattle.machine.proofs.Chain.{bind, via, via₂}
 use borrow.Author.Needs.{needs}
 use Rattle.operand.proofs.decode.far_cell.Statement.{statement}
 use Rattle.operand.proofs.decode.far_cell.Tie as tie
@@ -43,10 +42,10 @@ returns c =
     let at-bit = at-indexed .before in
     let at-offset = at-bit .before .before in
     let at-nibble = at-offset .before in
-    λ v g.
-    bind _ _ _ _ _ _ _ (via _ _ _ offset _ _ (at-nibble .nibble .ensures) (at-offset .offset .ensures _ v g _))
-    (bind _ _ _ _ _ _ _ (via _ _ _ (λ (x : Bool). indexed x (at-offset .offset .result .word)) _ _ (at-bit .bit .ensures) (at-indexed .indexed .ensures v g _))
-    (via₂ _ _ _ (λ (x y : Bool). named x y (at-indexed .indexed .result .word)) _ _ _ _ (at-bit2 .bit2 .ensures) (at-bit3 .bit3 .ensures) (c .before .before .before .before .named .ensures _ v g)))
+    λ _.
+    bind _ (via offset (at-nibble .nibble .ensures) (at-offset .offset .ensures _))
+    (bind _ (via (λ (x : Bool). indexed x (at-offset .offset .result .word)) (at-bit .bit .ensures) (at-indexed .indexed .ensures _))
+    (via₂ (λ (x y : Bool). named x y (at-indexed .indexed .result .word)) (at-bit2 .bit2 .ensures) (at-bit3 .bit3 .ensures) (c .before .before .before .before .named .ensures _)))
 
 pub far-cell-spec : {M : Type 1} → statement M
 far-cell-spec =

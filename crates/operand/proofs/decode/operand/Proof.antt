@@ -1,6 +1,6 @@
 -- The first byte, the cell, and its range.
 use Rattle.rules.specs.Operands.{operandOf}
-use Rattle.rules.proofs.Laws.{bind}
+use Rattle.machine.proofs.Chain.{bind}
 use borrow.Author.Needs.{needs}
 use Rattle.operand.proofs.decode.operand.Statement.{statement}
 use Rattle.operand.proofs.decode.operand.Tie as tie
@@ -26,7 +26,7 @@ returns c =
     let at-any-cell = c .before .before .before .before .before .before in
     let at-next-byte = at-any-cell .before .before .before in (
       c .answered .ensures .0,
-      λ v g. bind _ _ _ _ _ _ _ (at-next-byte .next-byte .ensures _ v g _) (bind _ _ _ _ _ _ _ (at-any-cell .any-cell .ensures v g) (c .answered .ensures .1 _ _ v g _)),
+      λ _. bind _ (at-next-byte .next-byte .ensures _) (bind _ (at-any-cell .any-cell .ensures _) (c .answered .ensures .1 _)),
     )
 
 pub operand-spec : {M : Type 1} → statement M

@@ -4,7 +4,7 @@ use Rattle.rules.specs.Machine.{cpu}
 use Rattle.rules.specs.Answers.{offStack}
 use Rattle.rules.specs.Rules.{poke, need}
 use Rattle.rules.specs.Operands.{popCell}
-use Rattle.rules.proofs.Laws.{seq, bind, via, gives}
+use Rattle.machine.proofs.Chain.{seq, bind, via, gives}
 use borrow.Author.Needs.{needs}
 use Rattle.operand.proofs.decode.pop_cell.Statement.{statement}
 use Rattle.operand.proofs.decode.pop_cell.Tie as tie
@@ -40,9 +40,9 @@ returns c =
     let at-need = at-down .before in
     let at-on-data-stack = at-need .before in
     let at-peek-pad = at-on-data-stack .before .before in
-    λ i v g.
-    bind _ _ _ _ _ _ _ (at-peek-pad .peek-pad .ensures i v g _) (seq _ _ _ _ _ _ (via _ _ _ (λ b. need b offStack) _ _ (at-on-data-stack .on-data-stack .ensures) (at-need .need .ensures offStack refl i _ v g _))
-    (seq _ _ _ _ _ _ (via _ _ _ (poke cpu _) _ _ (at-down .down .ensures) (c .before .before .before .before .poke-pad .ensures i v g)) (gives _ _ _ _ refl)))
+    λ _.
+    bind _ (at-peek-pad .peek-pad .ensures _) (seq (via (λ b. need b offStack) (at-on-data-stack .on-data-stack .ensures) (at-need .need .ensures offStack refl _))
+    (seq (via (poke cpu _) (at-down .down .ensures) (c .before .before .before .before .poke-pad .ensures _)) (gives refl)))
 
 pub pop-cell-spec : {M : Type 1} → statement M
 pop-cell-spec =

@@ -1,7 +1,7 @@
 -- The low byte, and the word of it.
 use Rattle.rules.specs.Rules.{give}
 use Rattle.rules.specs.Operands.{shortOffset}
-use Rattle.rules.proofs.Laws.{bind, via}
+use Rattle.machine.proofs.Chain.{bind, via}
 use borrow.Author.Needs.{needs}
 use Rattle.operand.proofs.decode.short_offset.Statement.{statement}
 use Rattle.operand.proofs.decode.short_offset.Tie as tie
@@ -18,8 +18,8 @@ give-word-requires c κs = search needs
 returns : tie.Need-returns
 unfolding shortOffset
 returns c =
-    λ p v g j.
-    bind _ _ _ _ _ _ _ (c .before .before .next-byte .ensures p v g j) (via _ _ _ give _ _ (c .before .word-of .ensures) (c .give-word .ensures .1 _ p v g j))
+    λ _.
+    bind _ (c .before .before .next-byte .ensures _) (via give (c .before .word-of .ensures) (c .give-word .ensures .1 _))
 
 pub short-offset-spec : {M : Type 1} → statement M
 short-offset-spec =

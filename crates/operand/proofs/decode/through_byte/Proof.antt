@@ -1,7 +1,7 @@
 -- The pad byte is the offset.
 use mathlib.Core.Path.{refl}
 use Rattle.rules.specs.Operands.{throughByte}
-use Rattle.rules.proofs.Laws.{bind, gives}
+use Rattle.machine.proofs.Chain.{bind, gives}
 use borrow.Author.Needs.{needs}
 use Rattle.operand.proofs.decode.through_byte.Statement.{statement}
 use Rattle.operand.proofs.decode.through_byte.Tie as tie
@@ -14,7 +14,7 @@ cast-to c = search needs
 
 returns : tie.Need-returns
 unfolding throughByte
-returns c = λ i v g j. bind _ _ _ _ _ _ _ (c .before .peek-pad .ensures i v g j) (gives _ _ _ _ refl)
+returns c = λ _. bind _ (c .before .peek-pad .ensures _) (gives refl)
 
 pub through-byte-spec : {M : Type 1} → statement M
 through-byte-spec = tie.close (tie.spec peek-pad-requires cast-to returns)

@@ -18,7 +18,7 @@ returns : tie.Need-returns
 unfolding throughPad
 returns c =
     let at-if1 = c .before .before .before .before .before .before .before in
-    λ i v g. rw (eq-eqb _ _ (at-if1 .if1 .taken)) (c .before .before .before .before .pop-cell .ensures i v g)
+    λ _. rw (eq-eqb _ _ (at-if1 .if1 .taken)) (c .before .before .before .before .pop-cell .ensures _)
 
 through-byte-requires : tie.Need-through-byte-requires
 through-byte-requires c κs = search needs
@@ -28,7 +28,7 @@ same-length-3 c = search needs
 
 returns-2 : tie.Need-returns-2
 unfolding throughPad
-returns-2 c = λ i v g. rw (ne-eqb _ _ (c .before .before .if1 .left)) (c .through-byte .ensures i v g _)
+returns-2 c = λ _. rw (ne-eqb _ _ (c .before .before .if1 .left)) (c .through-byte .ensures _)
 
 pub through-pad-spec : {M : Type 1} → statement M
 through-pad-spec =

@@ -1,7 +1,7 @@
 -- The pad word is the address.
 use mathlib.Core.Path.{refl}
 use Rattle.rules.specs.Operands.{throughWord}
-use Rattle.rules.proofs.Laws.{bind, gives}
+use Rattle.machine.proofs.Chain.{bind, gives}
 use borrow.Author.Needs.{needs}
 use Rattle.operand.proofs.decode.through_word.Statement.{statement}
 use Rattle.operand.proofs.decode.through_word.Tie as tie
@@ -11,7 +11,7 @@ peek-pad-word-requires c κs = search needs
 
 returns : tie.Need-returns
 unfolding throughWord
-returns c = λ i v g j. bind _ _ _ _ _ _ _ (c .peek-pad-word .ensures i v g j) (gives _ _ _ _ refl)
+returns c = λ _. bind _ (c .peek-pad-word .ensures _) (gives refl)
 
 pub through-word-spec : {M : Type 1} → statement M
 through-word-spec = tie.close (tie.spec peek-pad-word-requires returns)

@@ -3,7 +3,7 @@ use mathlib.Core.Path.{refl}
 use Rattle.rules.specs.Answers.{offScreen}
 use Rattle.rules.specs.Rules.{need}
 use Rattle.rules.specs.Operands.{draw}
-use Rattle.rules.proofs.Laws.{seq, via}
+use Rattle.machine.proofs.Chain.{seq, via}
 use borrow.Author.Needs.{needs}
 use Rattle.operand.proofs.screen.draw.Statement.{statement}
 use Rattle.operand.proofs.screen.draw.Tie as tie
@@ -28,8 +28,8 @@ unfolding draw
 returns c =
     let at-need = c .before .before .before .before .before .before .before in
     let at-on-screen = at-need .before in
-    λ i q g.
-    seq _ _ _ _ _ _ (via _ _ _ (λ b. need b offScreen) _ _ (at-on-screen .on-screen .ensures) (at-need .need .ensures offScreen refl i q _ g _)) (c .before .before .before .before .poke-vdp .ensures i q g)
+    λ _.
+    seq (via (λ b. need b offScreen) (at-on-screen .on-screen .ensures) (at-need .need .ensures offScreen refl _)) (c .before .before .before .before .poke-vdp .ensures _)
 
 pub draw-spec : {M : Type 1} → statement M
 draw-spec =

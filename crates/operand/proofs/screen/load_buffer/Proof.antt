@@ -1,6 +1,6 @@
 -- The screen byte, and its store.
 use Rattle.rules.specs.Operands.{loadBuffer}
-use Rattle.rules.proofs.Laws.{bind}
+use Rattle.machine.proofs.Chain.{bind}
 use borrow.Author.Needs.{needs}
 use Rattle.operand.proofs.screen.load_buffer.Statement.{statement}
 use Rattle.operand.proofs.screen.load_buffer.Tie as tie
@@ -21,7 +21,7 @@ returns : tie.Need-returns
 unfolding loadBuffer
 returns c =
     let at-screen-byte = c .before .before .before .before .before .before .before in
-    λ i g. bind _ _ _ _ _ _ _ (at-screen-byte .screen-byte .ensures i g _) (c .before .before .before .before .poke-pad .ensures i _ g)
+    λ _. bind _ (at-screen-byte .screen-byte .ensures _) (c .before .before .before .before .poke-pad .ensures _)
 
 pub load-buffer-spec : {M : Type 1} → statement M
 load-buffer-spec =

@@ -2,7 +2,7 @@
 use native.Mathlib.Omega.{arith}
 use Rattle.rules.specs.Rules.{give}
 use Rattle.rules.specs.Operands.{position}
-use Rattle.rules.proofs.Laws.{bind, via}
+use Rattle.machine.proofs.Chain.{bind, via}
 use borrow.Author.Needs.{needs}
 use Rattle.operand.proofs.screen.position.Statement.{statement}
 use Rattle.operand.proofs.screen.position.Tie as tie
@@ -23,8 +23,8 @@ returns : tie.Need-returns
 unfolding position
 returns c = (
   omega (arith, c .give-word .ensures .0, c .before .position-of .ensures),
-  λ i v g j. bind _ _ _ _ _ _ _ (c .before .before .before .peek-pad .ensures i v g j) (bind _ _ _ _ _ _ _ (c .before .before .peek-pad2 .ensures i v g j)
-      (via _ _ _ give _ _ (c .before .position-of .ensures) (c .give-word .ensures .1 i _ v g j))),
+  λ _. bind _ (c .before .before .before .peek-pad .ensures _) (bind _ (c .before .before .peek-pad2 .ensures _)
+      (via give (c .before .position-of .ensures) (c .give-word .ensures .1 _))),
 )
 
 pub position-spec : {M : Type 1} → statement M

@@ -3,7 +3,7 @@ use mathlib.Core.Path.{refl}
 use Rattle.rules.specs.Answers.{offScreen}
 use Rattle.rules.specs.Rules.{need}
 use Rattle.rules.specs.Operands.{screenByte}
-use Rattle.rules.proofs.Laws.{seq, bind, via}
+use Rattle.machine.proofs.Chain.{seq, bind, via}
 use borrow.Author.Needs.{needs}
 use Rattle.operand.proofs.screen.screen_byte.Statement.{statement}
 use Rattle.operand.proofs.screen.screen_byte.Tie as tie
@@ -26,9 +26,9 @@ peek-vdp-requires c κs = search needs
 returns : tie.Need-returns
 unfolding screenByte
 returns c =
-    λ i g j.
-    bind _ _ _ _ _ _ _ (c .before .before .before .before .position .ensures .1 i _ g j)
-    (seq _ _ _ _ _ _ (via _ _ _ (λ b. need b offScreen) _ _ (c .before .before .before .on-screen .ensures) (c .before .before .need .ensures offScreen refl i _ _ g j)) (c .peek-vdp .ensures i _ g j))
+    λ _.
+    bind _ (c .before .before .before .before .position .ensures .1 _)
+    (seq (via (λ b. need b offScreen) (c .before .before .before .on-screen .ensures) (c .before .before .need .ensures offScreen refl _)) (c .peek-vdp .ensures _))
 
 pub screen-byte-spec : {M : Type 1} → statement M
 screen-byte-spec =

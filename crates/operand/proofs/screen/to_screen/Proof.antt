@@ -1,6 +1,6 @@
 -- The position, and the store there.
 use Rattle.rules.specs.Operands.{toScreen}
-use Rattle.rules.proofs.Laws.{bind}
+use Rattle.machine.proofs.Chain.{bind}
 use borrow.Author.Needs.{needs}
 use Rattle.operand.proofs.screen.to_screen.Statement.{statement}
 use Rattle.operand.proofs.screen.to_screen.Tie as tie
@@ -21,7 +21,7 @@ returns : tie.Need-returns
 unfolding toScreen
 returns c =
     let at-position = c .before .before .before .before .before .before .before in
-    λ i g. bind _ _ _ _ _ _ _ (at-position .position .ensures .1 i _ g _) (c .before .before .before .before .draw .ensures i _ g)
+    λ _. bind _ (at-position .position .ensures .1 _) (c .before .before .before .before .draw .ensures _)
 
 pub to-screen-spec : {M : Type 1} → statement M
 to-screen-spec =

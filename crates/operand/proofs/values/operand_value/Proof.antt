@@ -1,7 +1,7 @@
 -- The operand, then its value.
-use Rattle.rules.specs.Operands.{operandOf, value, operandValue}
-use Rattle.rules.proofs.Laws.{via}
-use Rattle.operand.proofs.Reach.{with-place}
+use Rattle.rules.specs.Operands.{operandOf, operandValue}
+use Rattle.machine.proofs.Chain.{bind, via}
+use Rattle.operand.proofs.Reach.{apart}
 use borrow.Author.Needs.{needs}
 use Rattle.operand.proofs.values.operand_value.Statement.{statement}
 use Rattle.operand.proofs.values.operand_value.Tie as tie
@@ -33,11 +33,10 @@ returns c =
     let at-place-of = c .before .before .before .before .before in
     let at-now-of = at-place-of .before .before .before in
     let at-operand = at-now-of .before .before .before .before .before in
-    let at-byte-count = at-operand .before in
-    let start = at-byte-count .before .before .before .before .before .before .before in (
+    let at-byte-count = at-operand .before in (
       c .before .before .before .before .value .ensures .0,
-      λ g. with-place _ _ _ _ _ _ _ _ _ _ _ (value (start .args .wide)) (via _ _ _ operandOf _ _ (at-byte-count .byte-count .ensures .0) (at-operand .operand .ensures .1 _ g))
-          (at-now-of .now-of .ensures) (at-place-of .place-of .ensures) (c .before .before .before .before .value .ensures .1 _ g),
+      λ _. bind _ (apart (at-operand .operand .result) (via operandOf (at-byte-count .byte-count .ensures .0) (at-operand .operand .ensures .1 _))
+          (at-now-of .now-of .ensures) (at-place-of .place-of .ensures)) (c .before .before .before .before .value .ensures .1 _),
     )
 
 pub operand-value-spec : {M : Type 1} → statement M

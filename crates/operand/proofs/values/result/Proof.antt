@@ -1,6 +1,6 @@
 -- The store, then the screen, with the value's low byte.
 use Rattle.rules.specs.Operands.{echo, result}
-use Rattle.rules.proofs.Laws.{seq, via}
+use Rattle.machine.proofs.Chain.{seq, via}
 use borrow.Author.Needs.{needs}
 use Rattle.operand.proofs.values.result.Statement.{statement}
 use Rattle.operand.proofs.values.result.Tie as tie
@@ -28,7 +28,7 @@ unfolding result
 returns c =
     let at-low-of = c .before .before .before .before .before .before .before .before in
     let at-store-value = at-low-of .before .before .before .before .before .before .before in
-    λ i g. seq _ _ _ _ _ _ (at-store-value .store-value .ensures i g) (via _ _ _ (echo _) _ _ (at-low-of .low-of .ensures) (c .before .before .before .before .echo .ensures i g))
+    λ _. seq (at-store-value .store-value .ensures _) (via (echo _) (at-low-of .low-of .ensures) (c .before .before .before .before .echo .ensures _))
 
 pub result-spec : {M : Type 1} → statement M
 result-spec =

@@ -9,7 +9,7 @@ immediate-requires c κs = search needs
 
 returns : tie.Need-returns
 unfolding source
-returns c = (c .immediate .ensures .0, λ g. rw (c .before .if1 .taken) (c .immediate .ensures .1 _ _ g _))
+returns c = (c .immediate .ensures .0, λ _. rw (c .before .if1 .taken) (c .immediate .ensures .1 _))
 
 operand-value-requires : tie.Need-operand-value-requires
 operand-value-requires c κs = search needs
@@ -24,7 +24,7 @@ returns-2 : tie.Need-returns-2
 unfolding source
 returns-2 c =
     let at-if1 = c .before .before .before .before .before .before .before in
-    (c .before .before .before .before .operand-value .ensures .0, λ g. rw (at-if1 .if1 .left) (c .before .before .before .before .operand-value .ensures .1 g))
+    (c .before .before .before .before .operand-value .ensures .0, λ _. rw (at-if1 .if1 .left) (c .before .before .before .before .operand-value .ensures .1 _))
 
 pub source-spec : {M : Type 1} → statement M
 source-spec =

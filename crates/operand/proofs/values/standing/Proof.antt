@@ -1,7 +1,7 @@
 -- By the width: a word, or a byte as one.
-use mathlib.Core.Path.{_∙_}
 use native.Mathlib.Omega.{arith}
 use Rattle.rules.specs.Operands.{standing}
+use Rattle.machine.proofs.Chain.{hands}
 use borrow.Author.Needs.{needs}
 use Rattle.operand.proofs.values.standing.Statement.{statement}
 use Rattle.operand.proofs.values.standing.Tie as tie
@@ -11,7 +11,7 @@ word-at-requires c κs = search needs
 
 returns : tie.Need-returns
 unfolding standing
-returns c = rw (c .before .if1 .taken) (omega arith, λ i g j. c .word-at .ensures i g j)
+returns c = rw (c .before .if1 .taken) (omega arith, λ _. c .word-at .ensures _)
 
 byte-at-requires : tie.Need-byte-at-requires
 byte-at-requires c κs = search needs
@@ -21,7 +21,7 @@ widened-requires c κs = search needs
 
 returns-2 : tie.Need-returns-2
 unfolding standing
-returns-2 c = rw (c .before .before .if1 .left) (c .widened .ensures .0, λ i g j. c .widened .ensures .1 _ _ g j ∙ c .before .byte-at .ensures i g j)
+returns-2 c = rw (c .before .before .if1 .left) (c .widened .ensures .0, λ _. hands (c .before .byte-at .ensures _) (c .widened .ensures .1 _))
 
 pub standing-spec : {M : Type 1} → statement M
 standing-spec =

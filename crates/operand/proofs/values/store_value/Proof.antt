@@ -1,7 +1,6 @@
 -- By the width: two bytes, or the low one, which is all that a store keeps.
-use mathlib.Core.Path.{_∙_}
 use Rattle.rules.specs.Operands.{storeValue}
-use Rattle.rules.proofs.Laws.{kept-byte}
+use Rattle.machine.proofs.Chain.{kept-byte}
 use borrow.Author.Needs.{needs}
 use Rattle.operand.proofs.values.store_value.Statement.{statement}
 use Rattle.operand.proofs.values.store_value.Tie as tie
@@ -23,7 +22,7 @@ unfolding storeValue
 returns c =
     let at-store-word = c .before .before .before .before .before .before in
     let at-if1 = at-store-word .before .before .before .before in
-    λ i g. rw (at-if1 .if1 .taken) (at-store-word .store-word .ensures i g)
+    λ _. rw (at-if1 .if1 .taken) (at-store-word .store-word .ensures _)
 
 low-of-requires : tie.Need-low-of-requires
 low-of-requires c κs = search needs
@@ -46,7 +45,7 @@ returns-2 c =
     let at-store-byte = c .before .before .before .before .before .before in
     let at-low-of = at-store-byte .before .before .before .before in
     let at-if1 = at-low-of .before in
-    λ i g. rw (at-if1 .if1 .left) (at-store-byte .store-byte .ensures i g ∙ kept-byte i _ _ _ _ _ (at-low-of .low-of .ensures))
+    λ _. rw (at-if1 .if1 .left) (kept-byte (at-low-of .low-of .ensures) (at-store-byte .store-byte .ensures _))
 
 pub store-value-spec : {M : Type 1} → statement M
 store-value-spec =

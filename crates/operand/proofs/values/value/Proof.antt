@@ -1,6 +1,6 @@
 -- The buffer made fresh, then what stands there.
 use Rattle.rules.specs.Operands.{value}
-use Rattle.rules.proofs.Laws.{seq}
+use Rattle.machine.proofs.Chain.{seq}
 use borrow.Author.Needs.{needs}
 use Rattle.operand.proofs.values.value.Statement.{statement}
 use Rattle.operand.proofs.values.value.Tie as tie
@@ -21,7 +21,7 @@ returns : tie.Need-returns
 unfolding value
 returns c =
     let at-refresh = c .before .before .before .before .before .before in
-    (c .standing .ensures .0, λ i g. seq _ _ _ _ _ _ (at-refresh .refresh .ensures i g) (c .standing .ensures .1 i g _))
+    (c .standing .ensures .0, λ _. seq (at-refresh .refresh .ensures _) (c .standing .ensures .1 _))
 
 pub value-spec : {M : Type 1} → statement M
 value-spec =

@@ -3,11 +3,11 @@ use Prim.Native.Nat.{ℕ}
 use Rattle.rules.specs.Machine.{cpu, subPointer}
 use Rattle.rules.specs.Rules.{Rule, _>>_, give, poke}
 use Rattle.rules.specs.Instructions.{raise}
-use Rattle.rules.proofs.Laws.{bind, seq}
-use Rattle.flow.proofs.Laws.{needed, raised}
+use Rattle.machine.proofs.Chain.{bind, seq, needed}
+use Rattle.operand.proofs.Pointers.{raised}
 use borrow.Author.Needs.{needs}
-use Rattle.flow.proofs.stacks.raise.Statement.{statement}
-use Rattle.flow.proofs.stacks.raise.Tie as tie
+use Rattle.operand.proofs.stacks.raise.Statement.{statement}
+use Rattle.operand.proofs.stacks.raise.Tie as tie
 
 peek-pad-requires : tie.Need-peek-pad-requires
 peek-pad-requires c κs = search needs
@@ -43,10 +43,10 @@ returns c =
     let at-need-on-stack = at-poke-pad .before .before .before in
     let at-peek-pad = at-need-on-stack .before .before in
     let rest : ℕ → Rule ℕ = λ x. poke cpu subPointer x >> give x in
-    λ i v g.
-    bind _ _ _ _ _ _ _ (at-peek-pad .peek-pad .ensures i v g _)
-    (needed _ _ _ _ _ _ rest _ _ (at-need-on-stack .need-on-stack .ensures i _ v g _) (raised _)
-    (seq _ _ _ _ _ _ (at-poke-pad .poke-pad .ensures i v g) (c .give-byte .ensures i _ v g _)))
+    λ _.
+    bind _ (at-peek-pad .peek-pad .ensures _)
+    (needed _ rest (at-need-on-stack .need-on-stack .ensures _) (raised _)
+    (seq (at-poke-pad .poke-pad .ensures _) (c .give-byte .ensures _)))
 
 pub raise-spec : {M : Type 1} → statement M
 raise-spec =

@@ -1,28 +1,29 @@
 -- The invariant: what is left to do, done now, is what the whole does, and the lengths are as they were. A refused turn leaves the rest still.
-use mathlib.Core.Path.{_≡_, refl, _∙_}
-use mathlib.Core.List.{List}
-use Prim.Native.Nat.{ℕ, _+_, _-_, _≤_}
+use mathlib.Core.Path.{_≡_, refl, sym}
+use Prim.Native.Nat.{_+_, _-_, _≤_}
+use native.Mathlib.Nat.{add-assoc}
 use native.Mathlib.Omega.{arith}
 use lib.ListN.{length}
 use borrow.Author.Needs.{needs}
-use Rattle.rules.specs.Rules.{after}
 use Rattle.rules.specs.Instructions.{fill}
-use Rattle.machine.specs.Said.{out}
+use Rattle.rules.proofs.Loops.{up, none-left, none-made}
+use Rattle.machine.specs.Said.{_&_, vramFrom, journalFrom, Leaves}
 use Rattle.machine.proofs.Acts.{still}
-use Rattle.flow.proofs.Laws.{fill-more, fill-none, fill-all}
-use Rattle.flow.proofs.screen.fill.Statement.{statement}
-use Rattle.flow.proofs.screen.fill.Tie as tie
+use Rattle.machine.proofs.Chain.{whole, turns, ends, over}
+use Rattle.block.proofs.Laws.{fills}
+use Rattle.block.proofs.screen.fill.Statement.{statement}
+use Rattle.block.proofs.screen.fill.Tie as tie
 
 abbrev Inv-loop : tie.InvT-loop
 Inv-loop vram₀ journal₀ n at b x₀ done₀ vram journal x done =
-    ((i p g : List ℕ) → after i (out p vram g journal x) (fill (n - done) (at + done) b) ≡ after i (out p vram₀ g journal₀ x₀) (fill n at b))
+    Leaves (fill n at b) (fill (n - done) (at + done) b) (vramFrom vram₀ vram & journalFrom journal₀ journal) x₀ x
     × (length vram ≡ length vram₀) × (length journal ≡ length journal₀) × (done ≤ n)
 
 abbrev μ-loop : tie.MeasureT-loop
 μ-loop vram₀ journal₀ n at b x₀ done₀ vram journal x done = n - done
 
 loop-holds : tie.Need-loop-holds Inv-loop μ-loop
-loop-holds c = (λ i p g. fill-all _ _ _ _ _, refl, refl, omega arith)
+loop-holds c = (λ _. whole (none-made (fills _) _ _), refl, refl, omega arith)
 
 add-a : tie.Need-add-a Inv-loop μ-loop
 add-a c = search needs
@@ -41,8 +42,7 @@ returns c =
     let at-poke-vdp = c .before .before .before .before .before .before in
     let at-loop-test = at-poke-vdp .before .before .before in
     let at-loop = at-loop-test .before in
-    λ i p g.
-    still _ _ _ _ _ (c .if1 .taken) ∙ fill-more _ _ _ _ _ _ _ (at-loop-test .loop-test .taken) (at-poke-vdp .poke-vdp .ensures i p g) ∙ at-loop .loop .inv .0 i p g
+    λ _. ends (turns (at-loop .loop .inv .0 _) (up (fills _) (sym (add-assoc _ _ _)) (at-loop-test .loop-test .taken)) (at-poke-vdp .poke-vdp .ensures _)) (still (c .if1 .taken))
 
 add-done : tie.Need-add-done Inv-loop μ-loop
 add-done c = search needs
@@ -55,7 +55,7 @@ loop-again c =
     let at-poke-vdp = c .before .before .before .before .before .before in
     let at-loop-test = at-poke-vdp .before .before .before in
     let at-loop = at-loop-test .before in (
-      λ i p g. fill-more _ _ _ _ _ _ _ (at-loop-test .loop-test .taken) (at-poke-vdp .poke-vdp .ensures i p g) ∙ at-loop .loop .inv .0 i p g,
+      λ _. turns (at-loop .loop .inv .0 _) (up (fills _) (sym (add-assoc _ _ _)) (at-loop-test .loop-test .taken)) (at-poke-vdp .poke-vdp .ensures _),
       search needs,
       search needs,
       omega arith,
@@ -68,7 +68,7 @@ same-length-4 : tie.Need-same-length-4 Inv-loop μ-loop
 same-length-4 c = search needs
 
 returns-2 : tie.Need-returns-2 Inv-loop μ-loop
-returns-2 c = λ i p g. fill-none _ _ _ _ _ _ (omega arith) ∙ c .before .loop .inv .0 i p g
+returns-2 c = λ _. over (c .before .loop .inv .0 _) (none-left (fills _) _ (omega arith))
 
 pub fill-spec : {M : Type 1} → statement M
 fill-spec =

@@ -2,10 +2,10 @@
 use Rattle.rules.specs.Machine.{cpu}
 use Rattle.rules.specs.Rules.{poke}
 use Rattle.rules.specs.Instructions.{setCondition}
-use Rattle.rules.proofs.Laws.{bind, via}
+use Rattle.machine.proofs.Chain.{bind, via}
 use borrow.Author.Needs.{needs}
-use Rattle.flow.proofs.status.set_condition.Statement.{statement}
-use Rattle.flow.proofs.status.set_condition.Tie as tie
+use Rattle.operand.proofs.status.set_condition.Statement.{statement}
+use Rattle.operand.proofs.status.set_condition.Tie as tie
 
 peek-pad-requires : tie.Need-peek-pad-requires
 peek-pad-requires c κs = search needs
@@ -27,9 +27,9 @@ unfolding setCondition
 returns c =
     let at-with-condition = c .before .before .before .before .before .before .before in
     let at-peek-pad = at-with-condition .before in
-    λ i v g.
-    bind _ _ _ _ _ _ _ (at-peek-pad .peek-pad .ensures i v g _)
-    (via _ _ _ (poke cpu _) _ _ (at-with-condition .with-condition .ensures) (c .before .before .before .before .poke-pad .ensures i v g))
+    λ _.
+    bind _ (at-peek-pad .peek-pad .ensures _)
+    (via (poke cpu _) (at-with-condition .with-condition .ensures) (c .before .before .before .before .poke-pad .ensures _))
 
 pub set-condition-spec : {M : Type 1} → statement M
 set-condition-spec =

@@ -1,9 +1,9 @@
 -- The byte read, the screen filled with it, and the cursor at its start.
 use Rattle.rules.specs.Instructions.{allRule}
-use Rattle.rules.proofs.Laws.{bind, seq}
+use Rattle.machine.proofs.Chain.{bind, seq}
 use borrow.Author.Needs.{needs}
-use Rattle.flow.proofs.screen.all.Statement.{statement}
-use Rattle.flow.proofs.screen.all.Tie as tie
+use Rattle.block.proofs.screen.all.Statement.{statement}
+use Rattle.block.proofs.screen.all.Tie as tie
 
 next-byte-requires : tie.Need-next-byte-requires
 next-byte-requires c κs = search needs
@@ -32,9 +32,9 @@ returns c =
     let at-poke-pad = c .before .before .before .before .before .before .before .before .before .before .before in
     let at-fill = at-poke-pad .before .before .before .before .before .before .before in
     let at-next-byte = at-fill .before .before .before in
-    λ g.
-    bind _ _ _ _ _ _ _ (at-next-byte .next-byte .ensures _ _ g _) (seq _ _ _ _ _ _ (at-fill .fill .ensures _ _ g)
-    (seq _ _ _ _ _ _ (at-poke-pad .poke-pad .ensures _ _ g) (c .before .before .before .before .poke-pad2 .ensures _ _ g)))
+    λ _.
+    bind _ (at-next-byte .next-byte .ensures _) (seq (at-fill .fill .ensures _)
+    (seq (at-poke-pad .poke-pad .ensures _) (c .before .before .before .before .poke-pad2 .ensures _)))
 
 pub all-spec : {M : Type 1} → statement M
 all-spec =

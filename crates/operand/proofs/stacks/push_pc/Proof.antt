@@ -1,10 +1,10 @@
 -- The pointer raised, and pc stored there.
 use Rattle.rules.specs.Instructions.{pushPc}
-use Rattle.rules.proofs.Laws.{bind}
+use Rattle.machine.proofs.Chain.{bind}
 use Rattle.machine.proofs.Acts.{here-is}
 use borrow.Author.Needs.{needs}
-use Rattle.flow.proofs.stacks.push_pc.Statement.{statement}
-use Rattle.flow.proofs.stacks.push_pc.Tie as tie
+use Rattle.operand.proofs.stacks.push_pc.Statement.{statement}
+use Rattle.operand.proofs.stacks.push_pc.Tie as tie
 
 raise-requires : tie.Need-raise-requires
 raise-requires c κs = search needs
@@ -25,8 +25,8 @@ returns : tie.Need-returns
 unfolding pushPc
 returns c =
     let at-raise = c .before .before .before .before .before .before .before .before .before .before .before .before in
-    λ i v g.
-    bind _ _ _ _ _ _ _ (at-raise .raise .ensures i v g) (bind _ _ _ _ _ _ _ (here-is _ _ _ _) (c .before .before .before .before .poke-pad-word .ensures i v g))
+    λ _.
+    bind _ (at-raise .raise .ensures _) (bind _ here-is (c .before .before .before .before .poke-pad-word .ensures _))
 
 pub push-pc-spec : {M : Type 1} → statement M
 push-pc-spec =

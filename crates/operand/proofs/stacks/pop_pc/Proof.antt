@@ -3,11 +3,11 @@ use Prim.Native.Nat.{ℕ}
 use Rattle.rules.specs.Machine.{cpu, subPointer}
 use Rattle.rules.specs.Rules.{Rule, _>>=_, _>>_, goto, peekWord, poke}
 use Rattle.rules.specs.Instructions.{popPc}
-use Rattle.rules.proofs.Laws.{bind, seq}
-use Rattle.flow.proofs.Laws.{needed, lowered}
+use Rattle.machine.proofs.Chain.{bind, seq, needed}
+use Rattle.operand.proofs.Pointers.{lowered}
 use borrow.Author.Needs.{needs}
-use Rattle.flow.proofs.stacks.pop_pc.Statement.{statement}
-use Rattle.flow.proofs.stacks.pop_pc.Tie as tie
+use Rattle.operand.proofs.stacks.pop_pc.Statement.{statement}
+use Rattle.operand.proofs.stacks.pop_pc.Tie as tie
 
 peek-pad-requires : tie.Need-peek-pad-requires
 peek-pad-requires c κs = search needs
@@ -49,11 +49,11 @@ returns c =
     let at-peek-pad = at-wrapping-sub-u8 .before .before .before in
     let lower = lowered _ _ (at-wrapping-sub-u8 .wrapping-sub-u8 .ensures) (at-wrapping-sub-u8 .wrapping-sub-u8 .ok) in
     let rest : ℕ → Rule (Unit {0}) = λ x. peekWord cpu (at-peek-pad .peek-pad .result .byte) >>= (λ w. poke cpu subPointer x >> goto w) in
-    λ i v g.
-    bind _ _ _ _ _ _ _ (at-peek-pad .peek-pad .ensures i v g _)
-    (needed _ _ _ _ _ _ rest _ _ (at-need-on-stack .need-on-stack .ensures i _ v g _) lower
-    (bind _ _ _ _ _ _ _ (at-peek-pad-word .peek-pad-word .ensures i v g _)
-    (seq _ _ _ _ _ _ (at-poke-pad .poke-pad .ensures i v g) (c .jump .ensures i _ v g _))))
+    λ _.
+    bind _ (at-peek-pad .peek-pad .ensures _)
+    (needed _ rest (at-need-on-stack .need-on-stack .ensures _) lower
+    (bind _ (at-peek-pad-word .peek-pad-word .ensures _)
+    (seq (at-poke-pad .poke-pad .ensures _) (c .jump .ensures _))))
 
 pub pop-pc-spec : {M : Type 1} → statement M
 pop-pc-spec =

@@ -1,8 +1,8 @@
 -- By the three tests, in their order.
 use borrow.Author.Tests.{eq-eqb, ne-eqb, lt-leb, le-leb}
 use Rattle.rules.specs.Machine.{_also_}
-use Rattle.flow.proofs.stacks.on_sub_stack.Statement.{statement}
-use Rattle.flow.proofs.stacks.on_sub_stack.Tie as tie
+use Rattle.operand.proofs.stacks.on_sub_stack.Statement.{statement}
+use Rattle.operand.proofs.stacks.on_sub_stack.Tie as tie
 
 returns : tie.Need-returns
 unfolding _also_

@@ -1,12 +1,11 @@
 -- The operand, its value, and then whatever goes on.
-use mathlib.Core.Path.{refl}
 use Rattle.rules.specs.Rules.{_>>=_}
 use Rattle.rules.specs.Operands.{Cell, operandOf, value}
-use Rattle.rules.proofs.Laws.{bind, via}
-use Rattle.operand.proofs.Reach.{with-place}
+use Rattle.machine.proofs.Chain.{via, leaves, further}
+use Rattle.operand.proofs.Reach.{apart}
 use borrow.Author.Needs.{needs}
-use Rattle.arith.proofs.targets.read_target.Statement.{statement}
-use Rattle.arith.proofs.targets.read_target.Tie as tie
+use Rattle.operand.proofs.targets.read_target.Statement.{statement}
+use Rattle.operand.proofs.targets.read_target.Tie as tie
 
 byte-count-requires : tie.Need-byte-count-requires
 byte-count-requires c κs = search needs
@@ -38,9 +37,10 @@ returns c =
     let start = at-byte-count .before .before .before .before .before .before .before in (
       rw (at-place-of .place-of .ensures, ← at-byte-count .byte-count .ensures .0) (at-operand .operand .ensures .0),
       c .before .before .before .before .value .ensures .0,
-      λ g f. with-place _ _ _ _ _ _ _ _ _ _ _ (λ (x : Cell). value (start .args .wide) x >>= f x)
-          (via _ _ _ operandOf _ _ (at-byte-count .byte-count .ensures .0) (at-operand .operand .ensures .1 _ g))
-          (at-now-of .now-of .ensures) (at-place-of .place-of .ensures) (bind _ _ _ _ _ _ (f _) (c .before .before .before .before .value .ensures .1 _ g) refl),
+      λ f _. further
+          (leaves (λ (x : Cell). value (start .args .wide) x >>= f x)
+          (apart (at-operand .operand .result) (via operandOf (at-byte-count .byte-count .ensures .0) (at-operand .operand .ensures .1 _)) (at-now-of .now-of .ensures) (at-place-of .place-of .ensures)))
+          (leaves (f _) (c .before .before .before .before .value .ensures .1 _)),
     )
 
 pub read-target-spec : {M : Type 1} → statement M

@@ -1,9 +1,9 @@
 -- A byte read, and stored.
 use Rattle.rules.specs.Instructions.{backRule}
-use Rattle.rules.proofs.Laws.{bind}
+use Rattle.machine.proofs.Chain.{bind}
 use borrow.Author.Needs.{needs}
-use Rattle.flow.proofs.screen.back.Statement.{statement}
-use Rattle.flow.proofs.screen.back.Tie as tie
+use Rattle.block.proofs.screen.back.Statement.{statement}
+use Rattle.block.proofs.screen.back.Tie as tie
 
 next-byte-requires : tie.Need-next-byte-requires
 next-byte-requires c κs = search needs
@@ -21,7 +21,7 @@ returns : tie.Need-returns
 unfolding backRule
 returns c =
     let at-next-byte = c .before .before .before .before .before .before .before in
-    λ p v. bind _ _ _ _ _ _ _ (at-next-byte .next-byte .ensures p v _ _) (c .before .before .before .before .poke-reg .ensures _ p v)
+    λ _. bind _ (at-next-byte .next-byte .ensures _) (c .before .before .before .before .poke-reg .ensures _)
 
 pub back-spec : {M : Type 1} → statement M
 back-spec =

@@ -3,10 +3,10 @@ use mathlib.Core.Path.{refl}
 use mathlib.Core.Bool.{Bool}
 use Rattle.rules.specs.Answers.{offStack}
 use Rattle.rules.specs.Rules.{need}
-use Rattle.rules.proofs.Laws.{via}
+use Rattle.machine.proofs.Chain.{via}
 use borrow.Author.Needs.{needs}
-use Rattle.flow.proofs.stacks.need_on_stack.Statement.{statement}
-use Rattle.flow.proofs.stacks.need_on_stack.Tie as tie
+use Rattle.operand.proofs.stacks.need_on_stack.Statement.{statement}
+use Rattle.operand.proofs.stacks.need_on_stack.Tie as tie
 
 on-sub-stack-requires : tie.Need-on-sub-stack-requires
 on-sub-stack-requires c κs = search needs
@@ -15,7 +15,7 @@ need-requires : tie.Need-need-requires
 need-requires c κs = search needs
 
 returns : tie.Need-returns
-returns c = λ i p v g j. via _ _ _ (λ (t : Bool). need t offStack) _ _ (c .before .on-sub-stack .ensures) (c .need .ensures offStack refl i p v g j)
+returns c = λ _. via (λ (t : Bool). need t offStack) (c .before .on-sub-stack .ensures) (c .need .ensures offStack refl _)
 
 pub need-on-stack-spec : {M : Type 1} → statement M
 need-on-stack-spec = tie.close (tie.spec on-sub-stack-requires need-requires returns)

@@ -1,0 +1,47 @@
+// BACK and ALL: the backdrop, and the whole screen.
+use machine::cells;
+use machine::state::Now;
+ghost use Prim.Native.Nat.{_+_, _≤_};
+ghost use Rattle.rules.specs.Instructions;
+ghost use Rattle.rules.specs.Instructions.{backRule, allRule};
+ghost use Rattle.machine.specs.Said.{_&_, Does, Image, IsPad, IsRegs, IsVram, Journal, Pad, Regs, Vram};
+
+const BACKDROP: usize = 7;
+
+const SCREEN: usize = 768;
+
+pub fn back(image: &[u8], regs: &mut [u8], journal: &mut [u32], m: Now) -> Now
+    requires { ⌜ IsRegs regs ⌝ }
+    ensures { λ r. ⌜ Does backRule (Image image & Regs regs & Journal journal) m r ⌝ }
+{
+    let b = machine::grom::next_byte(image, m);
+    machine::registers::poke_reg(regs, journal, b, BACKDROP, b.byte)
+}
+
+// A byte into n cells of VDP RAM from `at` on, until one is refused.
+fn fill(vram: &mut [u8], journal: &mut [u32], m: Now, n: usize, at: usize, b: u8) -> Now
+    requires { ⌜ IsVram vram × (at + n ≤ 16384) ⌝ }
+    ensures { λ r. ⌜ Does (Instructions.fill n at b) (Vram vram & Journal journal) m r ⌝ }
+{
+    let mut x = m;
+    let mut done: usize = 0;
+    while done < n {
+        let a = at + done;
+        x = machine::vdp::poke_vdp(vram, journal, x, a, b);
+        if x.answer != 0 {
+            return x;
+        }
+        done += 1;
+    }
+    x
+}
+
+pub fn all(image: &[u8], pad: &mut [u8], vram: &mut [u8], journal: &mut [u32], m: Now) -> Now
+    requires { ⌜ IsPad pad × IsVram vram ⌝ }
+    ensures { λ r. ⌜ Does allRule (Image image & Pad pad & Vram vram & Journal journal) m r ⌝ }
+{
+    let b = machine::grom::next_byte(image, m);
+    let filled = fill(vram, journal, b, SCREEN, 0, b.byte);
+    let row = machine::pad::poke_pad(pad, journal, filled, cells::ROW, 0);
+    machine::pad::poke_pad(pad, journal, row, cells::COLUMN, 0)
+}

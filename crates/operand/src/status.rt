@@ -1,0 +1,14 @@
+// The condition bit of the status byte.
+use machine::cells;
+use machine::state::Now;
+ghost use Rattle.rules.specs.Instructions.{setCondition};
+ghost use Rattle.machine.specs.Said.{_&_, Does, IsPad, Journal, Pad};
+
+pub fn set_condition(pad: &mut [u8], journal: &mut [u32], m: Now, c: bool) -> Now
+    requires { ⌜ IsPad pad ⌝ }
+    ensures { λ r. ⌜ Does (setCondition c) (Pad pad & Journal journal) m r ⌝ }
+{
+    let s = machine::pad::peek_pad(pad, m, cells::STATUS);
+    let b = number::sums::with_condition(c, s.byte);
+    machine::pad::poke_pad(pad, journal, s, cells::STATUS, b)
+}
