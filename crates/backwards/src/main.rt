@@ -1,9 +1,8 @@
 // A walk backwards: a cartridge runs into an instruction that fails, and is then stepped back to its start, with pc and a viewed cell at each step.
+use bench::at::At;
 use bench::viewer::Memory;
 use lines::parts::Part;
 use lines::print;
-ghost use mathlib.Core.Path.{_≡_};
-ghost use lib.ListN.{length};
 
 // ST 5 to pad >00; CALL >000A; ST to pad >E0, out of reach. At >000A: ADD 3, INC, RTN.
 const CODE: [u8; 16] = [
@@ -32,7 +31,7 @@ fn show_answer(answer: u8, steps: u32, stores: u64) {
 }
 
 // pc, and pad >00 as the viewer shows it.
-fn show_place<'a>(pad: &'a [u8], vram: &'a [u8], pc: u16) {
+fn show_place<'a>(pad: &'a [u8; 256], vram: &'a [u8; 16384], pc: u16) {
     let mut out = [0u8; 13];
     let count = print::put_pc(&mut out, 0, pc);
     desk::show::write_text(&out, count);
@@ -45,25 +44,22 @@ fn show_place<'a>(pad: &'a [u8], vram: &'a [u8], pc: u16) {
 
 // Back as many steps as were made, and once more: 12, since no step is left.
 fn walk_back(
-    pad: &mut [u8],
-    vram: &mut [u8],
-    regs: &mut [u8],
-    journal: &mut [u32],
-    from: u16,
-    words: usize,
+    pad: &mut [u8; 256],
+    vram: &mut [u8; 16384],
+    regs: &mut [u8; 8],
+    journal: &mut [u32; 64],
+    from: At,
     steps: u32,
 ) {
-    let mut pc = from;
-    let mut used = words;
+    let mut at = from;
     let mut left = steps;
     while left > 0 {
-        let r = bench::walk::step_back(pad, vram, regs, journal, pc, used);
-        pc = r.pc;
-        used = r.used;
-        show_place(pad, vram, pc);
+        let r = bench::walk::step_back(pad, vram, regs, journal, at);
+        at = r.at;
+        show_place(pad, vram, at.pc);
         left -= 1;
     }
-    let last = bench::walk::step_back(pad, vram, regs, journal, pc, used);
+    let last = bench::walk::step_back(pad, vram, regs, journal, at);
     show_answer(last.answer, 0, last.stores);
 }
 
@@ -75,25 +71,18 @@ fn main() {
     let mut journal = [0u32; 64];
     bytes::copy(&CODE, &mut image);
     pad[0x73] = 0x7E;
+    let start = At { pc: 0, used: 0 };
     let r = bench::runs::run(
         &image,
         &mut pad,
         &mut vram,
         &mut regs,
         &mut journal,
-        0,
-        0,
+        start,
         100,
     );
+    let at = r.at;
     show_answer(r.answer, r.steps, r.stores);
-    show_place(&pad, &vram, r.pc);
-    walk_back(
-        &mut pad,
-        &mut vram,
-        &mut regs,
-        &mut journal,
-        r.pc,
-        r.used,
-        r.steps,
-    );
+    show_place(&pad, &vram, at.pc);
+    walk_back(&mut pad, &mut vram, &mut regs, &mut journal, at, r.steps);
 }

@@ -1,4 +1,5 @@
 pub mod Links
+pub mod Replies
 pub mod Steps
 pub mod Ahead
 pub mod Promises

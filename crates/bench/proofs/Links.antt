@@ -2,51 +2,52 @@
 use mathlib.Core.Path.{_≡_, refl, _∙_, ap, sym}
 use mathlib.Core.Bool.{Bool, true, false}
 use mathlib.Core.List.{List, []}
-use Prim.Native.Nat.{ℕ, _+_, _-_, _≤_}
+use Prim.Native.Nat.{ℕ, _+_, _-_}
 use native.Mathlib.Omega.{arith}
 use lib.Dec.{eqb, leb}
 use lib.ListN.{length, take, drop}
+use denote.Ref.{RefT, now}
 use borrow.Author.Tests.{ne-eqb, eq-eqb, leb-true, leb-false, eqb-true}
-use Rattle.rules.specs.Machine.{pick, _also_, cpu, vdp, register, size, reach, Mem, state}
+use Rattle.rules.specs.Machine.{pick, _also_, cpu, vdp, register, size, reach, mem, State}
 use Rattle.rules.specs.Journal.{undo}
 use Rattle.rules.specs.Calls.{partsFit, memFits, Find, scan, backTo, fitBack, stepBack, Memory, kindOf, viewed, view}
 use Rattle.rules.proofs.Fits.{both}
 use Rattle.machine.specs.Said.{foundAt}
-use Rattle.bench.specs.Told.{Outcome, outcome, replies, part}
+use Rattle.bench.specs.declared.at.At.{At}
+use Rattle.bench.specs.declared.walk.Reply as walk
+use Rattle.bench.specs.Meaning.{stateAt, Fit, Returned, returned, outcome, replies, told, refusal, undoing, backing, Tells, part}
 
 -- ---- a step back
 
-pub back-lost : (pc n q : ℕ) (m : Mem) → foundAt n q ≡ scan (m .used) (m .journal) → n ≡ 0 → outcome (replies 12 pc m) 0 ≡ outcome (fitBack (state pc m)) 0
+pub back-lost : {i p v g j : List ℕ} {at : At} {n : ℕ} (pc : ℕ) → foundAt n pc ≡ scan (at .used) j → n ≡ 0
+    → Tells told undoing i (stateAt p v g j at) (returned p v g j (refusal 12 at))
 unfolding fitBack replies foundAt
-back-lost pc n q m e h = ap (λ (f : Find). outcome (backTo f (state pc m)) 0) (rw h at e)
+back-lost {p = p} {v = v} {g = g} {j = j} {at = at} pc e h = record { is = ap (λ (f : Find). outcome (backTo f (stateAt p v g j at)) 0) (rw h at e) }
 
-pub back-found : (pc n q : ℕ) (m m′ : Mem) → foundAt n q ≡ scan (m .used) (m .journal) → (n ≡ 0 → ⊥) → m′ ≡ undo n m
-    → outcome (replies 0 q m′) 0 ≡ outcome (fitBack (state pc m)) 0
+pub back-found : {i p v g j : List ℕ} {s : State} {n pc u : ℕ} → foundAt n pc ≡ scan (s .mem .used) (s .mem .journal) → (n ≡ 0 → ⊥)
+    → mem p v g j u ≡ undo n (s .mem)
+    → Tells told undoing i s (returned p v g j (record { answer = 0; stores = 0; at = record { pc = pc; used = u } }))
 unfolding fitBack replies foundAt
-back-found pc n q m m′ e h k = rw k (ap (λ (f : Find). outcome (backTo f (state pc m)) 0) (rw (ne-eqb n 0 h) at e))
+back-found {s = s} {n = n} e h k = record { is = rw k (ap (λ (f : Find). outcome (backTo f s) 0) (rw (ne-eqb n 0 h) at e)) }
 
-module _ (pc : ℕ) (m : Mem) (t : Bool) (e : t ≡ memFits m) where
-  pub back-unfit : t ≡ false → outcome (replies 11 pc m) 0 ≡ outcome (stepBack (state pc m)) 0
-  unfolding stepBack replies
-  back-unfit h = rw (sym e ∙ h)
+pub back-unfit : {i p v g j : List ℕ} {at : At} {t : Bool} → t ≡ memFits (mem p v g j (at .used)) → t ≡ false
+    → Tells told backing i (stateAt p v g j at) (returned p v g j (refusal 11 at))
+unfolding stepBack replies
+back-unfit e h = record { is = rw (sym e ∙ h) }
 
-  pub back-fits : t ≡ true → (o : Outcome) → o ≡ outcome (fitBack (state pc m)) 0 → o ≡ outcome (stepBack (state pc m)) 0
-  unfolding stepBack
-  back-fits h o k = rw (sym e ∙ h) k
+pub back-fits : {i : List ℕ} {s : State} {x : Returned walk.Reply} {t : Bool} → t ≡ memFits (s .mem) → t ≡ true → Tells told undoing i s x
+    → Tells told backing i s x
+unfolding stepBack
+back-fits e h k = record { is = rw (sym e ∙ h) (k .is) }
 
 -- what test 11 says of the lengths
-pub record Fitting (p v g j u : ℕ) : Type 0 where
-  pub pad : p ≡ 256
-  pub vram : v ≡ 16384
-  pub regs : g ≡ 8
-  pub used : u ≤ j
-
-pub fitting : (p v g j u : ℕ) → partsFit p v g j u ≡ true → Fitting p v g j u
+pub fitting : {p v g j : RefT (List ℕ)} {at : At} → partsFit (length (now p)) (length (now v)) (length (now g)) (length (now j)) (at .used) ≡ true
+    → Fit p v g j at
 unfolding partsFit
-fitting p v g j u h =
-    let pads : (eqb p (size cpu) ≡ true) × _ = both h in
-    let vrams : (eqb v (size vdp) ≡ true) × _ = both (pads .1) in
-    let regss : (eqb g (size register) ≡ true) × _ = both (vrams .1) in
+fitting {p} {v} {g} {j} {at} h =
+    let pads : (eqb (length (now p)) (size cpu) ≡ true) × _ = both h in
+    let vrams : (eqb (length (now v)) (size vdp) ≡ true) × _ = both (pads .1) in
+    let regss : (eqb (length (now g)) (size register) ≡ true) × _ = both (vrams .1) in
     record { pad = eqb-true _ _ (pads .0); vram = eqb-true _ _ (vrams .0); regs = eqb-true _ _ (regss .0); used = leb-true _ _ (both (regss .1) .1) }
 
 -- ---- the viewer

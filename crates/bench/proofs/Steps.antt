@@ -1,4 +1,4 @@
--- A step in the code's words: how an attempt of a task ends, and how a refused one is put back.
+-- A step in the code's words: how an attempt of a task ends, how a refused one is put back, and what an opcode that has no task leaves.
 use mathlib.Core.Path.{_≡_, refl, _∙_, ap, ap₂, sym, subst}
 use mathlib.Core.Bool.{Bool, true, false}
 use mathlib.Core.List.{List}
@@ -7,11 +7,13 @@ use native.Mathlib.Nat.{sub-self}
 use native.Mathlib.Omega.{arith}
 use lib.Dec.{ltb}
 use lib.ListN.{length, getD, length-set}
+use mir.Syntax.{w8}
+use mir.Val.{Fits}
 use borrow.Author.Tests.{ne-eqb}
-use Rattle.rules.specs.Machine.{pick, cpu, vdp, register, Mem, mem, State, state, onward}
+use Rattle.rules.specs.Machine.{pick, cpu, vdp, register, Mem, mem, State, state, beside, onward}
 use Rattle.rules.specs.Answers.{number, offGrom}
 use Rattle.rules.specs.Journal.{markWord, Store, undo, blanked}
-use Rattle.rules.specs.Rules.{Out, got, stopped, then, after, valued, next, nextByte, perform, exec, storesThen}
+use Rattle.rules.specs.Rules.{Rule, Out, got, stopped, then, after, valued, next, nextByte, perform, exec}
 use Rattle.rules.specs.Opcodes.{Task, Class, stops, does, classOf}
 use Rattle.rules.specs.Tasks.{ruleOf}
 use Rattle.rules.specs.Calls.{fits, done, refused, takeMark, begin, attempt, settle, fitStep, step, beginStores, stepStores, made}
@@ -20,88 +22,122 @@ use Rattle.rules.proofs.Stores.{memOf, used-after, used-fits}
 use Rattle.rules.proofs.Steps.{Tried, early, late, tried-begin, rollback-step}
 use Rattle.rules.proofs.Replies.{tried-count}
 use Rattle.rules.proofs.Opcodes.{never-done}
-use Rattle.machine.specs.Said.{outs, Stand, stand, outOf, Goes}
+use Rattle.machine.specs.declared.state.Now.{Now}
+use Rattle.machine.specs.Said.{outs, out, Stand, stand, standing, outOf, Goes}
 use Rattle.machine.proofs.Chain as chain
 use Rattle.opcode.specs.Classes.{halts, tasks, said}
-use Rattle.bench.specs.Told.{Outcome, outcome, replies, settled}
+use Rattle.bench.specs.declared.at.At.{At}
+use Rattle.bench.specs.declared.walk.Reply as walk
+use Rattle.bench.specs.Meaning.{begun, stateAt, Returned, returned, outcome, replies, told, refusal, settled, beginning, settling, stepping, Tells, Tries}
 
 -- ---- a task attempted
 
 -- past an opcode, which stood at pc, the mark and the task are the rules' attempt
-pub record Tries (i : List ℕ) (t : Task) (pc pc₁ : ℕ) (m : Mem) (u : Stand) : Type 0 where
-  pub is : outOf u ≡ begin i pc (does t) pc₁ m
-
-pub tries : {i : List ℕ} {t : Task} {pc pc₁ z : ℕ} {m : Mem} {s u : Stand} → z ≡ 0
-    → outOf s ≡ then (outs z pc₁ m) (λ _ pc₂ m₂. takeMark pc pc₂ m₂) → Goes i s (ruleOf t) tt u → Tries i t pc pc₁ m u
+pub tries : {i p v g j : List ℕ} {t : Task} {pc pc₁ u : ℕ} {n : Now} {s e : Stand} → n ≡ begun pc₁ u
+    → outOf s ≡ then (out p v g j n) (λ _ pc₂ m₂. takeMark pc pc₂ m₂) → Goes i s (ruleOf t) tt e → Tries t pc₁ i (state pc (mem p v g j u)) e
 unfolding begin outs
-tries {i = i} {t = t} h e g = record { is = chain.done g ∙ ap (λ (x : Out (Unit {0})). after i x (ruleOf t)) (e ∙ rw h) }
-
--- ---- what it leaves
+tries {i = i} {t = t} b k h = record { is = chain.done h ∙ ap (λ (x : Out (Unit {0})). after i x (ruleOf t)) (k ∙ rw b) }
 
 memOf-outs : (a pc : ℕ) (m : Mem) → memOf (outs a pc m) ≡ m
 unfolding outs
 memOf-outs zero pc m = refl
 memOf-outs (suc a) pc m = rw (ne-eqb (suc a) 0 (λ e. omega arith))
 
-tried-grows : {pc : ℕ} {m : Mem} {ss : List Store} {o : Out (Unit {0})} → Tried pc m ss o → m .used ≤ memOf o .used
-tried-grows early = omega arith
-tried-grows (late h t) = omega (arith, used-after t)
+module _ {pc : ℕ} {m : Mem} where
+  tried-grows : {ss : List Store} {o : Out (Unit {0})} → Tried pc m ss o → m .used ≤ memOf o .used
+  tried-grows early = omega arith
+  tried-grows (late h t) = omega (arith, used-after t)
 
-tried-fits : {pc : ℕ} {m : Mem} {ss : List Store} {o : Out (Unit {0})} → Tried pc m ss o → m .used ≤ length (m .journal) → memOf o .used ≤ length (memOf o .journal)
-tried-fits early l = l
-tried-fits {pc} {m} (late h t) l = used-fits t (rw (length-set (m .journal) (m .used) (markWord pc)) h)
+  tried-fits : {ss : List Store} {o : Out (Unit {0})} → Tried pc m ss o → m .used ≤ length (m .journal) → memOf o .used ≤ length (memOf o .journal)
+  tried-fits early l = l
+  tried-fits (late h t) l = used-fits t (rw (length-set (m .journal) (m .used) (markWord pc)) h)
 
-module _ {i : List ℕ} {t : Task} {pc pc₁ a pc₂ : ℕ} {m m₂ : Mem} (g : Tries i t pc pc₁ m (stand a pc₂ m₂)) where
-  attempted : Tried pc m (beginStores i pc (does t) pc₁ m) (outs a pc₂ m₂)
-  attempted = subst (Tried pc m (beginStores i pc (does t) pc₁ m)) (sym (g .is)) (tried-begin i pc m (does t) pc₁)
+module _ {i : List ℕ} {t : Task} {pc₁ a pc₂ : ℕ} {s : State} {m : Mem} (g : Tries t pc₁ i s (stand a pc₂ m)) where
+  tried : Tried (s .pc) (s .mem) (beginStores i (s .pc) (does t) pc₁ (s .mem)) (outs a pc₂ m)
+  tried = rw (g .is) (tried-begin i (s .pc) (s .mem) (does t) pc₁)
 
-  pub used-grows : m .used ≤ m₂ .used
-  used-grows = subst (λ (x : Mem). m .used ≤ x .used) (memOf-outs a pc₂ m₂) (tried-grows attempted)
+  pub used-grows : s .mem .used ≤ m .used
+  used-grows = rw (memOf-outs a pc₂ m) at (tried-grows tried)
 
-  pub used-stays : m .used ≤ length (m .journal) → m₂ .used ≤ length (m₂ .journal)
-  used-stays l = subst (λ (x : Mem). x .used ≤ length (x .journal)) (memOf-outs a pc₂ m₂) (tried-fits attempted l)
+  pub used-stays : s .mem .used ≤ length (s .mem .journal) → m .used ≤ length (m .journal)
+  used-stays l = rw (memOf-outs a pc₂ m) at (tried-fits tried l)
 
-  -- done
-  counted : a ≡ 0 → m₂ .used ≡ suc (m .used) + length (beginStores i pc (does t) pc₁ m)
+  counted : a ≡ 0 → m .used ≡ suc (s .mem .used) + length (beginStores i (s .pc) (does t) pc₁ (s .mem))
   unfolding outs
-  counted z = tried-count (rw z at attempted)
+  counted z = tried-count (rw z at tried)
 
-  pub took-a-mark : a ≡ 0 → m .used < m₂ .used
+  pub took-a-mark : a ≡ 0 → s .mem .used < m .used
   took-a-mark z = omega (arith, counted z)
 
-  pub task-done : (n : ℕ) → a ≡ 0 → n ≡ m₂ .used - m .used - 1 → outcome (replies 0 pc₂ m₂) n ≡ settled (state pc m) (begin i pc (does t) pc₁ m) (beginStores i pc (does t) pc₁ m)
-  unfolding outs replies
-  task-done n z q =
-      let ss : List Store = beginStores i pc (does t) pc₁ m in
-      let count : n ≡ length ss = omega (arith, counted z) in
-      ap (outcome (done (state pc₂ m₂))) count ∙ ap (λ (o : Out (Unit {0})). settled (state pc m) o ss) (rw z at (g .is))
+  -- put back word by word: the words that it had taken are 0, and all else is as before
+  put-back : s .pc < 65536 → Bytes (s .mem) → (a ≡ 0 → ⊥) → undo (m .used - s .mem .used) m ≡ blanked (m .used - s .mem .used) (s .mem)
+  unfolding outs
+  put-back l b h = rollback-step l b (rw (ne-eqb a 0 h) at tried)
 
-  -- refused: put back word by word
-  pub task-undone : (m₃ : Mem) → pc < 65536 → Bytes m → (a ≡ 0 → ⊥) → m₃ ≡ undo (m₂ .used - m .used) m₂
-      → outcome (replies a pc m₃) 0 ≡ settled (state pc m) (begin i pc (does t) pc₁ m) (beginStores i pc (does t) pc₁ m)
-  unfolding outs replies
-  task-undone m₃ l b h q =
-      let ss : List Store = beginStores i pc (does t) pc₁ m in
-      let back : undo (m₂ .used - m .used) m₂ ≡ blanked (m₂ .used - m .used) m = rollback-step l b (rw (ne-eqb a 0 h) at attempted) in
-      rw (ne-eqb a 0 h) (ap (λ (x : Mem). outcome (refused a (state pc x)) 0) (q ∙ back)
-      ∙ ap (λ (o : Out (Unit {0})). settled (state pc m) o ss) (rw (ne-eqb a 0 h) at (g .is)))
+pub task-done : {i p v g j : List ℕ} {t : Task} {pc₁ a pc u n : ℕ} {s : State} → Tries t pc₁ i s (stand a pc (mem p v g j u)) → a ≡ 0 → n ≡ u - s .mem .used - 1
+    → Tells told (beginning t pc₁) i s (returned p v g j (record { answer = 0; stores = n; at = record { pc = pc; used = u } }))
+unfolding outs replies
+task-done {i} {p} {v} {g} {j} {t} {pc₁} {a} {pc} {u} {n} {s} h z q =
+    let ss : List Store = beginStores i (s .pc) (does t) pc₁ (s .mem) in
+    let count : n ≡ length ss = omega (arith, counted h z) in
+    record { is = ap (outcome (done (state pc (mem p v g j u)))) count ∙ ap (λ (o : Out (Unit {0})). settled s o ss) (rw z at (h .is)) }
 
 -- bytes are bytes
-pub bytes-of : (p v g j : List ℕ) (u : ℕ) → ((n : ℕ) → getD p n 0 < 256) → ((n : ℕ) → getD v n 0 < 256) → ((n : ℕ) → getD g n 0 < 256) → Bytes (mem p v g j u)
-bytes-of p v g j u a b c cpu = a
-bytes-of p v g j u a b c vdp = b
-bytes-of p v g j u a b c register = c
+abbrev pub AreBytes : List ℕ → Type 0
+AreBytes l = (n : ℕ) → Fits w8 (getD l n 0)
 
--- ---- the opcode
+pub bytes-of : (m : Mem) → AreBytes (m .pad) → AreBytes (m .vram) → AreBytes (m .regs) → Bytes m
+bytes-of m a b c cpu n = a n .fits
+bytes-of m a b c vdp n = b n .fits
+bytes-of m a b c register n = c n .fits
+
+pub task-undone : {i p v g j p₂ v₂ g₂ j₂ p₃ v₃ g₃ j₃ : List ℕ} {t : Task} {at : At} {pc₁ a pc₂ u w : ℕ} → at .pc < 65536 → AreBytes p → AreBytes v → AreBytes g
+    → Tries t pc₁ i (stateAt p v g j at) (stand a pc₂ (mem p₂ v₂ g₂ j₂ u)) → (a ≡ 0 → ⊥) → mem p₃ v₃ g₃ j₃ w ≡ undo (u - at .used) (mem p₂ v₂ g₂ j₂ u)
+    → Tells told (beginning t pc₁) i (stateAt p v g j at) (returned p₃ v₃ g₃ j₃ (refusal a at))
+unfolding outs replies
+task-undone {i} {p} {v} {g} {j} {p₃ = p₃} {v₃ = v₃} {g₃ = g₃} {j₃ = j₃} {t = t} {at = at} {pc₁ = pc₁} {a = a} {u = u} {w = w} l bp bv bg h f q =
+    let s : State = stateAt p v g j at in
+    let ss : List Store = beginStores i (at .pc) (does t) pc₁ (s .mem) in
+    let k : ℕ = u - at .used in
+    let back : mem p₃ v₃ g₃ j₃ w ≡ blanked k (s .mem) = q ∙ put-back h l (bytes-of (s .mem) bp bv bg) f in
+    let same : mem p₃ v₃ g₃ j₃ (at .used) ≡ blanked k (s .mem) = ap (λ (x : Mem). beside (x .journal) (at .used) x) back in
+    record {
+      is = rw (ne-eqb a 0 f) (ap (λ (x : Mem). outcome (refused a (state (at .pc) x)) 0) same
+          ∙ ap (λ (o : Out (Unit {0})). settled s o ss) (rw (ne-eqb a 0 f) at (h .is)));
+    }
+
+-- ---- an opcode's class, by what the code has of it
+
+stopped-class : (k : Class) (n : ℕ) → halts n ≡ said k → (i : List ℕ) (pc pc₁ : ℕ) (m : Mem) → begin i pc k pc₁ m ≡ stopped n m
+unfolding begin
+stopped-class (stops why) n e i pc pc₁ m =
+    let q : number why ≡ n = cc in
+    ap (λ (x : ℕ). stopped x m) q
+stopped-class (does t) n e i pc pc₁ m = absurd (let z : _≡_ {A = ℕ} 0 1 = cc in omega arith)
+
+-- its answer is not 0
+halts-not-0 : (k : Class) (n : ℕ) → halts n ≡ said k → n ≡ 0 → ⊥
+halts-not-0 (stops why) n e z =
+    let q : number why ≡ n = cc in
+    omega (arith, never-done why)
+halts-not-0 (does t) n e z = let q : _≡_ {A = ℕ} 0 1 = cc in omega arith
+
+does-class : (k : Class) (t : Task) → tasks t ≡ said k → k ≡ does t
+does-class (stops why) t e = absurd (let z : _≡_ {A = ℕ} 0 1 = cc in omega arith)
+does-class (does u) t e =
+    let q : u ≡ t = cc in
+    ap does q
+
+-- ---- the opcode read
+
+-- of a machine that has begun, by where it has
+pub from : {A : Type 0} {i p v g j : List ℕ} {n : Now} {pc u : ℕ} {r : Rule A} {a : A} {t : Stand} → n ≡ begun pc u
+    → Goes i (standing p v g j n) r a t → Goes i (stand 0 pc (mem p v g j u)) r a t
+from {i = i} {p = p} {v = v} {g = g} {j = j} {r = r} {a = a} {t = t} e h = subst (λ (x : Now). Goes i (standing p v g j x) r a t) e h
 
 then-got : {A : Type 0} (o : Out A) → then o (λ v pc m. got v pc m) ≡ o
 then-got (got v pc m) = refl
 then-got (stopped n m) = refl
-
-memOf-valued : {A : Type 0} (v : A) (o : Out (Unit {0})) → memOf (valued v o) ≡ memOf o
-unfolding valued
-memOf-valued v (got a pc m) = refl
-memOf-valued v (stopped n m) = refl
 
 memOf-next : (i : List ℕ) (pc : ℕ) (m : Mem) → memOf (perform next i pc m) ≡ m
 unfolding perform
@@ -111,85 +147,74 @@ memOf-next i pc m = go (ltb pc (length i))
     go true = refl
     go false = refl
 
--- an opcode's class by what it is said to be
-stopped-class : (k : Class) (n : ℕ) → halts n ≡ said k → (i : List ℕ) (pc pc₁ : ℕ) (m : Mem) → begin i pc k pc₁ m ≡ stopped n m
-unfolding begin
-stopped-class (stops why) n e i pc pc₁ m =
-    let q : number why ≡ n = cc in
-    ap (λ (x : ℕ). stopped x m) q
-stopped-class (does t) n e i pc pc₁ m = absurd (let z : _≡_ {A = ℕ} 0 1 = cc in omega arith)
-
-does-class : (k : Class) (t : Task) → tasks t ≡ said k → k ≡ does t
-does-class (stops why) t e = absurd (let z : _≡_ {A = ℕ} 0 1 = cc in omega arith)
-does-class (does u) t e =
-    let q : u ≡ t = cc in
-    ap does q
-
--- how a step ends whose attempt was stopped before its mark
-untouched : (n pc : ℕ) (m : Mem) (o : Out (Unit {0})) (ss : List Store) → (n ≡ 0 → ⊥) → o ≡ stopped n m → outcome (replies n pc m) 0 ≡ settled (state pc m) o ss
-unfolding replies
-untouched n pc m o ss h e = rw (ne-eqb n 0 h, e, sub-self (m .used))
-
-module _ {i : List ℕ} {v a pc pc₁ : ℕ} {m m′ : Mem} (g : Goes i (stand 0 pc m) nextByte v (stand a pc₁ m′)) where
-  next-is : valued v (outs a pc₁ m′) ≡ perform next i pc m
+module _ {i : List ℕ} {b a pc₁ : ℕ} {s : State} {m : Mem} (g : Goes i (stand 0 (s .pc) (s .mem)) nextByte b (stand a pc₁ m)) where
+  next-is : perform next i (s .pc) (s .mem) ≡ valued b (outs a pc₁ m)
   unfolding after outs exec
-  next-is = g .is ∙ then-got (perform next i pc m)
+  next-is = sym (g .is ∙ then-got (perform next i (s .pc) (s .mem)))
 
-  pub same-mem : m′ ≡ m
-  same-mem = sym (memOf-outs a pc₁ m′) ∙ sym (memOf-valued v (outs a pc₁ m′)) ∙ ap memOf next-is ∙ memOf-next i pc m
+  -- the memories are as they were
+  next-mem : {o : Out ℕ} → perform next i (s .pc) (s .mem) ≡ o → memOf o ≡ s .mem
+  next-mem e = sym (ap memOf e) ∙ memOf-next i (s .pc) (s .mem)
 
-  here : valued v (outs a pc₁ m) ≡ perform next i pc m
-  here = subst (λ (x : Mem). valued v (outs a pc₁ x) ≡ perform next i pc m) same-mem next-is
+  missed : (a ≡ 0 → ⊥) → perform next i (s .pc) (s .mem) ≡ stopped a (s .mem)
+  unfolding outs valued
+  missed h =
+      let e : perform next i (s .pc) (s .mem) ≡ stopped a m = rw (ne-eqb a 0 h) at next-is in
+      e ∙ ap (stopped a) (next-mem e)
 
-  -- 6: no opcode
-  pub step-beyond : (a ≡ 0 → ⊥) → outcome (replies a pc m) 0 ≡ settled (state pc m) (attempt i (state pc m)) (stepStores i (state pc m))
-  unfolding attempt outs valued
-  step-beyond h =
-      untouched a pc m (attempt i (state pc m)) (stepStores i (state pc m)) h
-      (ap (λ (o : Out ℕ). then o (λ op pc₂ m₂. begin i pc (classOf op) pc₂ m₂)) (sym here) ∙ rw (ne-eqb a 0 h))
+  read : a ≡ 0 → perform next i (s .pc) (s .mem) ≡ got b pc₁ (s .mem)
+  unfolding outs valued
+  read z =
+      let e : perform next i (s .pc) (s .mem) ≡ got b pc₁ m = rw z at next-is in
+      e ∙ ap (got b pc₁) (next-mem e)
 
-  attempt-is : a ≡ 0 → attempt i (state pc m) ≡ begin i pc (classOf v) pc₁ m
-  unfolding attempt outs valued
-  attempt-is z = ap (λ (o : Out ℕ). then o (λ op pc₂ m₂. begin i pc (classOf op) pc₂ m₂)) (sym here) ∙ rw z
+  attempt-missed : (a ≡ 0 → ⊥) → attempt i s ≡ stopped a (s .mem)
+  unfolding attempt
+  attempt-missed h = rw (missed h)
 
-  stores-are : a ≡ 0 → stepStores i (state pc m) ≡ beginStores i pc (classOf v) pc₁ m
-  unfolding stepStores outs valued
-  stores-are z = ap (λ (o : Out ℕ). storesThen o (λ op pc₂ m₂. beginStores i pc (classOf op) pc₂ m₂)) (sym here) ∙ rw z
+  attempt-is : a ≡ 0 → attempt i s ≡ begin i (s .pc) (classOf b) pc₁ (s .mem)
+  unfolding attempt
+  attempt-is z = rw (read z)
 
-  -- 1, 2 and 3
-  pub step-halted : (n : ℕ) → a ≡ 0 → (n ≡ 0 → ⊥) → halts n ≡ said (classOf v)
-      → outcome (replies n pc m) 0 ≡ settled (state pc m) (attempt i (state pc m)) (stepStores i (state pc m))
-  step-halted n z h k =
-      untouched n pc m (attempt i (state pc m)) (stepStores i (state pc m)) h (attempt-is z ∙ stopped-class (classOf v) n k i pc pc₁ m)
+  stores-are : a ≡ 0 → stepStores i s ≡ beginStores i (s .pc) (classOf b) pc₁ (s .mem)
+  unfolding stepStores
+  stores-are z = rw (read z)
 
   -- a task
-  pub step-does : (t : Task) (o : Outcome) → a ≡ 0 → tasks t ≡ said (classOf v) → o ≡ settled (state pc m′) (begin i pc (does t) pc₁ m′) (beginStores i pc (does t) pc₁ m′)
-      → o ≡ settled (state pc m) (attempt i (state pc m)) (stepStores i (state pc m))
-  step-does t o z k h =
-      let c : classOf v ≡ does t = does-class (classOf v) t k in
-      h ∙ ap (λ (x : Mem). settled (state pc x) (begin i pc (does t) pc₁ x) (beginStores i pc (does t) pc₁ x)) same-mem
-      ∙ ap₂ (λ (x : Out (Unit {0})) (y : List Store). settled (state pc m) x y)
-      (ap (λ (x : Class). begin i pc x pc₁ m) (sym c) ∙ sym (attempt-is z)) (ap (λ (x : Class). beginStores i pc x pc₁ m) (sym c) ∙ sym (stores-are z))
+  pub step-does : {t : Task} {x : Returned walk.Reply} → a ≡ 0 → tasks t ≡ said (classOf b) → Tells told (beginning t pc₁) i s x → Tells told settling i s x
+  step-does {t} z k e =
+      let c : does t ≡ classOf b = sym (does-class (classOf b) t k) in
+      record {
+        is = e .is ∙ ap₂ (settled s) (ap (λ (x : Class). begin i (s .pc) x pc₁ (s .mem)) c ∙ sym (attempt-is z))
+            (ap (λ (x : Class). beginStores i (s .pc) x pc₁ (s .mem)) c ∙ sym (stores-are z));
+      }
 
--- what an opcode that is stopped answers is not 0
-pub halts-not-0 : (k : Class) (n : ℕ) → halts n ≡ said k → n ≡ 0 → ⊥
-halts-not-0 (stops why) n e z =
-    let q : number why ≡ n = cc in
-    omega (arith, never-done why)
-halts-not-0 (does t) n e z = let q : _≡_ {A = ℕ} 0 1 = cc in omega arith
+-- stopped before the mark
+untouched : {i p v g j : List ℕ} {at : At} {n : ℕ} → (n ≡ 0 → ⊥) → attempt i (stateAt p v g j at) ≡ stopped n (mem p v g j (at .used))
+    → Tells told settling i (stateAt p v g j at) (returned p v g j (refusal n at))
+unfolding replies
+untouched {at = at} {n = n} h e = record { is = rw (ne-eqb n 0 h, e, sub-self (at .used)) }
+
+module _ {i p v g j : List ℕ} {at : At} {b a pc₁ : ℕ} {m : Mem} (h : Goes i (stand 0 (at .pc) (mem p v g j (at .used))) nextByte b (stand a pc₁ m)) where
+  -- 6: no opcode
+  pub step-beyond : (a ≡ 0 → ⊥) → Tells told settling i (stateAt p v g j at) (returned p v g j (refusal a at))
+  step-beyond f = untouched f (attempt-missed h f)
+
+  -- 1, 2 and 3
+  pub step-halted : {n : ℕ} → a ≡ 0 → halts n ≡ said (classOf b) → Tells told settling i (stateAt p v g j at) (returned p v g j (refusal n at))
+  step-halted {n} z k = untouched (halts-not-0 (classOf b) n k) (attempt-is h z ∙ stopped-class (classOf b) n k i (at .pc) pc₁ (mem p v g j (at .used)))
 
 -- ---- the call
 
-pub as-step : (i : List ℕ) (s : State) (o : Out (Unit {0})) → settled s o (stepStores i s) ≡ outcome (settle s o) (made i s (settle s o))
+as-step : (i : List ℕ) (s : State) (o : Out (Unit {0})) → settled s o (stepStores i s) ≡ outcome (settle s o) (made i s (settle s o))
 as-step i s (got a pc m) = refl
 as-step i s (stopped n m) = refl
 
-module _ (i : List ℕ) (pc : ℕ) (m : Mem) (t : Bool) (e : t ≡ fits i (state pc m)) where
-  pub step-unfit : t ≡ false → outcome (replies 11 pc m) 0 ≡ outcome (step i (state pc m)) (made i (state pc m) (step i (state pc m)))
-  unfolding step replies
-  step-unfit h = rw (sym e ∙ h)
+pub step-unfit : {i p v g j : List ℕ} {at : At} {t : Bool} → t ≡ fits i (stateAt p v g j at) → t ≡ false
+    → Tells told stepping i (stateAt p v g j at) (returned p v g j (refusal 11 at))
+unfolding step replies
+step-unfit e h = record { is = rw (sym e ∙ h) }
 
-  pub step-fits : t ≡ true → (o : Outcome) → o ≡ settled (state pc m) (attempt i (state pc m)) (stepStores i (state pc m))
-      → o ≡ outcome (step i (state pc m)) (made i (state pc m) (step i (state pc m)))
-  unfolding step fitStep
-  step-fits h o k = rw (sym e ∙ h) (k ∙ as-step i (state pc m) (attempt i (state pc m)))
+pub step-fits : {i : List ℕ} {s : State} {x : Returned walk.Reply} {t : Bool} → t ≡ fits i s → t ≡ true → Tells told settling i s x → Tells told stepping i s x
+unfolding step fitStep
+step-fits {i} {s} e h k = record { is = rw (sym e ∙ h) (k .is ∙ as-step i s (attempt i s)) }

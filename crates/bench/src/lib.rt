@@ -1,4 +1,5 @@
 // The public calls: step, run, step_back and view.
+pub mod at;
 pub mod fits;
 pub mod runs;
 pub mod viewer;

@@ -1,20 +1,19 @@
 // Runs of steps.
+use crate::at::At;
 use crate::fits;
 use crate::walk;
 use machine::answers;
-ghost use mathlib.Core.Path.{_≡_};
-ghost use mathlib.Core.Bool.{true};
 ghost use Rattle.rules.specs.Calls;
-ghost use Rattle.rules.specs.Calls.{fits, steps};
-ghost use Rattle.bench.specs.Told.{lent, reports, given};
+ghost use Rattle.rules.specs.Calls.{steps};
+ghost use Rattle.machine.specs.Said.{_&_, Image, Journal, Pad, Regs, Vram};
+ghost use Rattle.bench.specs.Meaning.{Fits, Reports};
 
-// What a run leaves: its answer, pc and used words, how many steps were done, and how many bytes these stored.
+// What a run leaves: its answer, how many steps were done, how many bytes these stored, and where the machine stands.
 pub struct Report {
     pub answer: u8,
-    pub pc: u16,
-    pub used: usize,
     pub steps: u32,
     pub stores: u64,
+    pub at: At,
 }
 
 // A run past test 11, which every accepted step leaves passed.
@@ -24,28 +23,24 @@ fn fit_run(
     vram: &mut [u8],
     regs: &mut [u8],
     journal: &mut [u32],
-    pc: u16,
-    used: usize,
+    at: At,
     n: u32,
 ) -> Report
-    requires { ⌜ fits (now image) (lent (now pad) (now vram) (now regs) (now journal) pc used) ≡ true ⌝ }
-    ensures { λ r. ⌜ reports pad vram regs journal r ≡ steps n (now (image .entry)) (given pad vram regs journal pc used) ⌝ }
+    requires { ⌜ Fits image pad vram regs journal at ⌝ }
+    ensures { λ r. ⌜ Reports (steps n) (Image image & Pad pad & Vram vram & Regs regs & Journal journal) at r ⌝ }
 {
-    let mut at = pc;
-    let mut top = used;
+    let mut here = at;
     let mut done: u32 = 0;
     let mut stores: u64 = 0;
     while done < n {
-        let r = walk::fit_step(image, pad, vram, regs, journal, at, top);
-        at = r.pc;
-        top = r.used;
+        let r = walk::fit_step(image, pad, vram, regs, journal, here);
+        here = r.at;
         if r.answer != 0 {
             return Report {
                 answer: r.answer,
-                pc: at,
-                used: top,
                 steps: done,
                 stores,
+                at: here,
             };
         }
         stores = stores + r.stores;
@@ -53,10 +48,9 @@ fn fit_run(
     }
     Report {
         answer: 0,
-        pc: at,
-        used: top,
         steps: done,
         stores,
+        at: here,
     }
 }
 
@@ -67,11 +61,10 @@ pub fn run(
     vram: &mut [u8],
     regs: &mut [u8],
     journal: &mut [u32],
-    pc: u16,
-    used: usize,
+    at: At,
     n: u32,
 ) -> Report
-    ensures { λ r. ⌜ reports pad vram regs journal r ≡ Calls.run n (now (image .entry)) (given pad vram regs journal pc used) ⌝ }
+    ensures { λ r. ⌜ Reports (Calls.run n) (Image image & Pad pad & Vram vram & Regs regs & Journal journal) at r ⌝ }
 {
     let fit = fits::all_fit(
         image.len(),
@@ -79,16 +72,15 @@ pub fn run(
         vram.len(),
         regs.len(),
         journal.len(),
-        used,
+        at.used,
     );
     if !fit {
         return Report {
             answer: answers::WRONG_LENGTH,
-            pc,
-            used,
             steps: 0,
             stores: 0,
+            at,
         };
     }
-    fit_run(image, pad, vram, regs, journal, pc, used, n)
+    fit_run(image, pad, vram, regs, journal, at, n)
 }

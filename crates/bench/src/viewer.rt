@@ -4,7 +4,7 @@ ghost use mathlib.Core.Path.{_≡_};
 ghost use Prim.Native.Nat.{_≤_};
 ghost use lib.ListN.{length};
 ghost use Rattle.rules.specs.Calls;
-ghost use Rattle.bench.specs.Told.{memoryOf, part};
+ghost use Rattle.bench.specs.Meaning.{memoryOf, part};
 
 pub enum Memory {
     Cpu,

@@ -1,62 +1,80 @@
 // Steps and step-backs.
+use crate::at;
+use crate::at::At;
 use crate::fits;
 use machine::answers;
 use machine::state::Now;
 use opcode::class::Class;
 use opcode::class::Task;
 ghost use mathlib.Core.Path.{_≡_};
-ghost use Prim.Native.Nat.{_≤_};
-ghost use lib.ListN.{length};
-ghost use Rattle.rules.specs.Calls.{fitBack, stepBack};
 ghost use Rattle.opcode.specs.Classes.{taskOf};
-ghost use Rattle.machine.specs.Said.{IsPad, IsVram, IsRegs};
-ghost use Rattle.bench.specs.Told.{tells, outcome, beginning, settling, stepping, given};
+ghost use Rattle.machine.specs.Said.{_&_, Image, Journal, Pad, Regs, Vram};
+ghost use Rattle.bench.specs.Meaning.{Fit, Attempts, Replies, refusal, beginning, settling, stepping, undoing, backing};
 
-// What a call leaves: its answer, pc and used words, and how many bytes it stored.
+// What a call leaves: its answer, how many bytes it stored, and where the machine stands.
 pub struct Reply {
     pub answer: u8,
-    pub pc: u16,
-    pub used: usize,
     pub stores: u64,
+    pub at: At,
+}
+
+fn refused(answer: u8, at: At) -> Reply
+    ensures { λ r. ⌜ r ≡ refusal answer at ⌝ }
+{
+    Reply {
+        answer,
+        stores: 0,
+        at,
+    }
 }
 
 // ---- a step
 
-// The mark, the task, and on a refusal all put back. `m` is past the opcode, which stood at `pc`.
+// The mark and the task. The opcode stood at `at`, and `next` is past it.
+fn try_task(
+    image: &[u8],
+    pad: &mut [u8],
+    vram: &mut [u8],
+    regs: &mut [u8],
+    journal: &mut [u32],
+    at: At,
+    next: u16,
+    task: Task,
+) -> Now
+    requires { ⌜ Fit pad vram regs journal at ⌝ }
+    ensures { λ m. ⌜ Attempts (taskOf task) next (Image image & Pad pad & Vram vram & Regs regs & Journal journal) at m ⌝ }
+{
+    let marked = machine::journal::take_mark(journal, at::begin(at, next), at.pc);
+    opcode::task::perform(image, pad, vram, regs, journal, marked, task)
+}
+
+// A task, and on a refusal all put back.
 fn do_task(
     image: &[u8],
     pad: &mut [u8],
     vram: &mut [u8],
     regs: &mut [u8],
     journal: &mut [u32],
-    m: Now,
-    pc: u16,
+    at: At,
+    next: u16,
     task: Task,
 ) -> Reply
-    requires { ⌜ IsPad pad × IsVram vram × IsRegs regs × (m .used ≤ length (now journal)) × (m .answer ≡ 0) ⌝ }
-    ensures { λ r. ⌜ tells pad vram regs journal r ≡ beginning (now (image .entry)) (taskOf task) (m .pc) (given pad vram regs journal pc (m .used)) ⌝ }
+    requires { ⌜ Fit pad vram regs journal at ⌝ }
+    ensures { λ r. ⌜ Replies (beginning (taskOf task) next) (Image image & Pad pad & Vram vram & Regs regs & Journal journal) at r ⌝ }
 {
-    let used = m.used;
-    let marked = machine::journal::take_mark(journal, m, pc);
-    let r = opcode::task::perform(image, pad, vram, regs, journal, marked, task);
-    let top = r.used;
-    let taken = top - used;
-    if r.answer == 0 {
+    let m = try_task(image, pad, vram, regs, journal, at, next, task);
+    let top = m.used;
+    let taken = top - at.used;
+    if m.answer == 0 {
         let stores = taken - 1;
         return Reply {
             answer: 0,
-            pc: r.pc,
-            used: top,
             stores: stores as u64,
+            at: at::reached(m),
         };
     }
-    let left = machine::journal::undo(pad, vram, regs, journal, top, taken);
-    Reply {
-        answer: r.answer,
-        pc,
-        used: left,
-        stores: 0,
-    }
+    machine::journal::undo(pad, vram, regs, journal, top, taken);
+    refused(m.answer, at)
 }
 
 // A step past test 11: the opcode, and its class.
@@ -66,37 +84,19 @@ pub(crate) fn fit_step(
     vram: &mut [u8],
     regs: &mut [u8],
     journal: &mut [u32],
-    pc: u16,
-    used: usize,
+    at: At,
 ) -> Reply
-    requires { ⌜ IsPad pad × IsVram vram × IsRegs regs × (used ≤ length (now journal)) ⌝ }
-    ensures { λ r. ⌜ tells pad vram regs journal r ≡ settling (now (image .entry)) (given pad vram regs journal pc used) ⌝ }
+    requires { ⌜ Fit pad vram regs journal at ⌝ }
+    ensures { λ r. ⌜ Replies settling (Image image & Pad pad & Vram vram & Regs regs & Journal journal) at r ⌝ }
 {
-    let start = Now {
-        pc,
-        used,
-        answer: 0,
-        byte: 0,
-        word: 0,
-    };
-    let op = machine::grom::next_byte(image, start);
+    let op = machine::grom::next_byte(image, at::begin(at, at.pc));
     if op.answer != 0 {
-        return Reply {
-            answer: op.answer,
-            pc,
-            used,
-            stores: 0,
-        };
+        return refused(op.answer, at);
     }
     let class = opcode::class::class_of(op.byte);
     match class {
-        Class::Stops(n) => Reply {
-            answer: n,
-            pc,
-            used,
-            stores: 0,
-        },
-        Class::Does(task) => do_task(image, pad, vram, regs, journal, op, pc, task),
+        Class::Stops(n) => refused(n, at),
+        Class::Does(task) => do_task(image, pad, vram, regs, journal, at, op.pc, task),
     }
 }
 
@@ -106,10 +106,9 @@ pub fn step(
     vram: &mut [u8],
     regs: &mut [u8],
     journal: &mut [u32],
-    pc: u16,
-    used: usize,
+    at: At,
 ) -> Reply
-    ensures { λ r. ⌜ tells pad vram regs journal r ≡ stepping (now (image .entry)) (given pad vram regs journal pc used) ⌝ }
+    ensures { λ r. ⌜ Replies stepping (Image image & Pad pad & Vram vram & Regs regs & Journal journal) at r ⌝ }
 {
     let fit = fits::all_fit(
         image.len(),
@@ -117,49 +116,35 @@ pub fn step(
         vram.len(),
         regs.len(),
         journal.len(),
-        used,
+        at.used,
     );
     if !fit {
-        return Reply {
-            answer: answers::WRONG_LENGTH,
-            pc,
-            used,
-            stores: 0,
-        };
+        return refused(answers::WRONG_LENGTH, at);
     }
-    fit_step(image, pad, vram, regs, journal, pc, used)
+    fit_step(image, pad, vram, regs, journal, at)
 }
 
 // ---- a step back
 
 // A step back past test 11.
-fn fit_back(
-    pad: &mut [u8],
-    vram: &mut [u8],
-    regs: &mut [u8],
-    journal: &mut [u32],
-    pc: u16,
-    used: usize,
-) -> Reply
-    requires { ⌜ IsPad pad × IsVram vram × IsRegs regs × (used ≤ length (now journal)) ⌝ }
-    ensures { λ r. ⌜ tells pad vram regs journal r ≡ outcome (fitBack (given pad vram regs journal pc used)) 0 ⌝ }
+fn fit_back(pad: &mut [u8], vram: &mut [u8], regs: &mut [u8], journal: &mut [u32], at: At) -> Reply
+    requires { ⌜ Fit pad vram regs journal at ⌝ }
+    ensures { λ r. ⌜ Replies undoing (Pad pad & Vram vram & Regs regs & Journal journal) at r ⌝ }
 {
-    let found = machine::journal::find(journal, used);
+    let found = machine::journal::find(journal, at.used);
     let words = found.words;
     if words == 0 {
-        return Reply {
-            answer: answers::NO_RECORD,
-            pc,
-            used,
-            stores: 0,
-        };
+        return refused(answers::NO_RECORD, at);
     }
-    let left = machine::journal::undo(pad, vram, regs, journal, used, words);
-    Reply {
-        answer: 0,
+    let left = machine::journal::undo(pad, vram, regs, journal, at.used, words);
+    let back = At {
         pc: found.pc,
         used: left,
+    };
+    Reply {
+        answer: 0,
         stores: 0,
+        at: back,
     }
 }
 
@@ -168,19 +153,13 @@ pub fn step_back(
     vram: &mut [u8],
     regs: &mut [u8],
     journal: &mut [u32],
-    pc: u16,
-    used: usize,
+    at: At,
 ) -> Reply
-    ensures { λ r. ⌜ tells pad vram regs journal r ≡ outcome (stepBack (given pad vram regs journal pc used)) 0 ⌝ }
+    ensures { λ r. ⌜ Replies backing (Pad pad & Vram vram & Regs regs & Journal journal) at r ⌝ }
 {
-    let fit = fits::parts_fit(pad.len(), vram.len(), regs.len(), journal.len(), used);
+    let fit = fits::parts_fit(pad.len(), vram.len(), regs.len(), journal.len(), at.used);
     if !fit {
-        return Reply {
-            answer: answers::WRONG_LENGTH,
-            pc,
-            used,
-            stores: 0,
-        };
+        return refused(answers::WRONG_LENGTH, at);
     }
-    fit_back(pad, vram, regs, journal, pc, used)
+    fit_back(pad, vram, regs, journal, at)
 }

@@ -1,9 +1,8 @@
 -- What a line does to the machine on the desk, and what it prints: "The program reads standard input, tabbed lines".
-use mathlib.Core.Path.{_≡_}
 use mathlib.Core.Bool.{Bool, true, false}
 use mathlib.Core.List.{List, []}
 use Prim.Native.Nat.{ℕ}
-use Rattle.rules.specs.Machine.{mem, State, state}
+use Rattle.rules.specs.Machine.{Mem, mem, State, state}
 use Rattle.rules.specs.Calls.{Report, run}
 use Rattle.lines.specs.Digits.{laid}
 use Rattle.lines.specs.Shown.{badLine, runLines}
@@ -17,29 +16,41 @@ pub record Desk : Type 0 where
 abbrev pub desk : List ℕ → State → Desk
 desk i s = record { image = i; machine = s }
 
+abbrev pub memories : Desk → Mem
+memories d = d .machine .mem
+
+-- the same desk with other memories
+abbrev pub remade : (Mem → Mem) → Desk → Desk
+remade f d = desk (d .image) (state (d .machine .pc) (f (memories d)))
+
 -- "each with address and hex bytes": they are laid over the part
-abbrev pub placed : Part → ℕ → List ℕ → List ℕ → State → Desk
-placed grom at bs i s = desk (laid i at bs) s
-placed pad at bs i s = desk i (state (s .pc) (mem (laid (s .mem .pad) at bs) (s .mem .vram) (s .mem .regs) (s .mem .journal) (s .mem .used)))
-placed vdp at bs i s = desk i (state (s .pc) (mem (s .mem .pad) (laid (s .mem .vram) at bs) (s .mem .regs) (s .mem .journal) (s .mem .used)))
-placed reg at bs i s = desk i (state (s .pc) (mem (s .mem .pad) (s .mem .vram) (laid (s .mem .regs) at bs) (s .mem .journal) (s .mem .used)))
+abbrev pub placed : Part → ℕ → List ℕ → Desk → Desk
+placed grom at bs d = desk (laid (d .image) at bs) (d .machine)
+placed pad at bs d = remade (λ m. mem (laid (m .pad) at bs) (m .vram) (m .regs) (m .journal) (m .used)) d
+placed vdp at bs d = remade (λ m. mem (m .pad) (laid (m .vram) at bs) (m .regs) (m .journal) (m .used)) d
+placed reg at bs d = remade (λ m. mem (m .pad) (m .vram) (laid (m .regs) at bs) (m .journal) (m .used)) d
 
-abbrev pub obeyed : Line → List ℕ → State → Desk
-obeyed (sets p at bs) i s = placed p at bs i s
-obeyed (jumps n) i s = desk i (state n (s .mem))
-obeyed (runs n) i s = desk i (run n i s .end)
-obeyed bad i s = desk i s
+abbrev pub ran : ℕ → Desk → Report
+ran n d = run n (d .image) (d .machine)
 
--- "It prints answer, steps, stores; pc; each cell changed", and "changed means by that run": p, v and g are pad, VDP RAM and registers before it
-abbrev pub runText : List ℕ → List ℕ → List ℕ → Report → List ℕ
-runText p v g r = runLines (r .answer) (r .steps) (r .stores) (r .end .pc) p (r .end .mem .pad) v (r .end .mem .vram) g (r .end .mem .regs)
+abbrev pub obeyed : Line → Desk → Desk
+obeyed (sets p at bs) d = placed p at bs d
+obeyed (jumps n) d = desk (d .image) (state n (memories d))
+obeyed (runs n) d = desk (d .image) (ran n d .end)
+obeyed bad d = d
+
+-- "It prints answer, steps, stores; pc; each cell changed", and "changed means by that run": m has pad, VDP RAM and registers before it
+abbrev pub runText : Mem → Report → List ℕ
+runText m r =
+    let e : Mem = r .end .mem in
+    runLines (r .answer) (r .steps) (r .stores) (r .end .pc) (m .pad) (e .pad) (m .vram) (e .vram) (m .regs) (e .regs)
 
 -- what a line prints, by its number: "A line not so, or past its part: `bad`, its number from 1"
-abbrev pub printed : ℕ → Line → List ℕ → State → List ℕ
-printed k (sets p at bs) i s = []
-printed k (jumps n) i s = []
-printed k (runs n) i s = runText (s .mem .pad) (s .mem .vram) (s .mem .regs) (run n i s)
-printed k bad i s = badLine k
+abbrev pub printed : ℕ → Line → Desk → List ℕ
+printed k (sets p at bs) d = []
+printed k (jumps n) d = []
+printed k (runs n) d = runText (memories d) (ran n d)
+printed k bad d = badLine k
 
 -- whether it says anything
 abbrev pub says : Line → Bool
@@ -47,9 +58,3 @@ says (sets p at bs) = true
 says (jumps n) = true
 says (runs n) = true
 says bad = false
-
--- a line obeyed: what it leaves of an image and a machine, what it prints, and whether it was taken
-pub record Obeyed (k : ℕ) (l : Line) (i : List ℕ) (s : State) (i₁ : List ℕ) (s₁ : State) (text : List ℕ) (good : Bool) : Type 0 where
-  pub left : desk i₁ s₁ ≡ obeyed l i s
-  pub prints : text ≡ printed k l i s
-  pub taken : good ≡ says l

@@ -3,25 +3,21 @@ use crate::input;
 use crate::obey;
 use crate::obey::Stand;
 use crate::show;
-ghost use mathlib.Core.Path.{_≡_};
-ghost use lib.ListN.{length};
+use bench::at::At;
 
 // A line obeyed, and what it prints written.
 fn obey_aloud(
     text: &[u8],
     number: u64,
-    image: &mut [u8],
-    pad: &mut [u8],
-    vram: &mut [u8],
-    regs: &mut [u8],
-    journal: &mut [u32],
-    pc: u16,
-    used: usize,
-    out: &mut [u8],
-) -> Stand
-    requires { ⌜ (length (now image) ≡ 32768) × (length (now pad) ≡ 256) × (length (now vram) ≡ 16384) × (length (now regs) ≡ 8) × (length (now out) ≡ 216502) ⌝ }
-{
-    let stand = obey::obey(text, number, image, pad, vram, regs, journal, pc, used, out);
+    image: &mut [u8; 32768],
+    pad: &mut [u8; 256],
+    vram: &mut [u8; 16384],
+    regs: &mut [u8; 8],
+    journal: &mut [u32; 16384],
+    at: At,
+    out: &mut [u8; 216502],
+) -> Stand {
+    let stand = obey::obey(text, number, image, pad, vram, regs, journal, at, out);
     show::write_text(out, stand.count);
     stand
 }
@@ -31,46 +27,30 @@ fn obey_lines(
     fd: i32,
     chunk: &mut [u8],
     line: &mut [u8],
-    image: &mut [u8],
-    pad: &mut [u8],
-    vram: &mut [u8],
-    regs: &mut [u8],
-    journal: &mut [u32],
-    out: &mut [u8],
-)
-    requires { ⌜ (length (now image) ≡ 32768) × (length (now pad) ≡ 256) × (length (now vram) ≡ 16384) × (length (now regs) ≡ 8) × (length (now out) ≡ 216502) ⌝ }
-{
-    let mut at = 0;
-    let mut have = 0;
-    let mut pc: u16 = 0;
-    let mut used = 0;
+    image: &mut [u8; 32768],
+    pad: &mut [u8; 256],
+    vram: &mut [u8; 16384],
+    regs: &mut [u8; 8],
+    journal: &mut [u32; 16384],
+    out: &mut [u8; 216502],
+) {
+    let mut span = input::Span { at: 0, have: 0 };
+    let mut at = obey::first();
     let mut number: u64 = 0;
     while number < u64::MAX {
-        let next = input::next_line(fd, chunk, at, have, line);
+        let next = input::next_line(fd, chunk, span, line);
         if next.none {
             return;
         }
         number += 1;
-        at = next.at;
-        have = next.have;
+        span = next.rest;
         let len = next.len;
-        let stand = obey_aloud(
-            &line[..len],
-            number,
-            image,
-            pad,
-            vram,
-            regs,
-            journal,
-            pc,
-            used,
-            out,
-        );
+        let text = &line[..len];
+        let stand = obey_aloud(text, number, image, pad, vram, regs, journal, at, out);
         if !stand.good {
             return;
         }
-        pc = stand.pc;
-        used = stand.used;
+        at = stand.at;
     }
 }
 

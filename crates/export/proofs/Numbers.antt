@@ -7,27 +7,33 @@ use native.Mathlib.Omega.{arith}
 use lib.Dec.{eqb}
 use lib.ListN.{length}
 use borrow.Author.Tests.{ne-eqb}
-use Rattle.rules.specs.Machine.{pick, Mem, mem, State, state}
+use Rattle.rules.specs.Machine.{pick, State}
 use Rattle.rules.specs.Answers.{number, wrongLength}
 use Rattle.rules.specs.Calls.{fits, Reply, done, refused, left, step, stepStores, made, Report, report, onto, steps, run}
 use Rattle.rules.proofs.Fits.{step-unfit}
-use Rattle.bench.specs.Told.{Outcome, outcome, replies, stepping}
-use Rattle.export.specs.Heard.{heard, tallied, counted}
+use Rattle.bench.specs.declared.walk.Reply as walk
+use Rattle.bench.specs.declared.runs.Report as runs
+use Rattle.bench.specs.Meaning.{stateAt, Returned, returned, Outcome, outcome, replies, told, stepping, reported, Tells}
+use Rattle.export.specs.Meaning.{Numbers, heard, tallied, counted, oneStep}
 
--- ---- steps
+-- ---- the report of a run, and the reply of a step back
 
-tally : (a pc n : ℕ) (m : Mem) → report a (pick (eqb a 0) 1 0) n (state pc m) ≡ counted (outcome (replies a pc m) n)
+tally : (a n : ℕ) (s : State) → report a (pick (eqb a 0) 1 0) n s ≡ counted (outcome (replies a s) n)
 unfolding counted replies
-tally zero pc n m = refl
-tally (suc a) pc n m = rw (ne-eqb (suc a) 0 (λ e. omega arith))
+tally zero n s = refl
+tally (suc a) n s = rw (ne-eqb (suc a) 0 (λ e. omega arith))
 
-module _ (p v g j out : List ℕ) (a pc u k n : ℕ) (e : out ≡ pc ∷ u ∷ k ∷ n ∷ []) where
-  pub heard-report : (r : Report) → report a k n (state pc (mem p v g j u)) ≡ r → heard p v g j a out ≡ r
+module _ {i p v g j out : List ℕ} {s : State} where
+  pub heard-report : {f : List ℕ → State → Report} {r : runs.Report} → out ≡ r .at .pc ∷ r .at .used ∷ r .steps ∷ r .stores ∷ []
+      → Tells reported f i s (returned p v g j r) → Tells heard f i s (returned p v g j (record { answer = r .answer; out = out }))
   unfolding heard
-  heard-report r h = rw e h
+  heard-report e h = record { is = rw e (h .is) }
 
-  pub heard-reply : (o : Outcome) → k ≡ pick (eqb a 0) 1 0 → outcome (replies a pc (mem p v g j u)) n ≡ o → heard p v g j a out ≡ counted o
-  heard-reply o q h = heard-report (counted o) (ap (λ (x : ℕ). report a x n (state pc (mem p v g j u))) q ∙ tally a pc n (mem p v g j u) ∙ ap counted h)
+  pub heard-reply : {f : List ℕ → State → Outcome} {r : walk.Reply} {k : ℕ} → out ≡ r .at .pc ∷ r .at .used ∷ k ∷ r .stores ∷ []
+      → k ≡ pick (eqb (r .answer) 0) 1 0 → Tells told f i s (returned p v g j r)
+      → Tells heard (λ (l : List ℕ) (t : State). counted (f l t)) i s (returned p v g j (record { answer = r .answer; out = out }))
+  unfolding heard
+  heard-reply {r = r} e q h = record { is = rw (e, q) (tally (r .answer) (r .stores) (stateAt p v g j (r .at)) ∙ ap counted (h .is)) }
 
 -- ---- a run of one step is a step
 
@@ -39,10 +45,13 @@ module _ (i : List ℕ) (s : State) where
       ap (λ (x : ℕ). report 0 1 x t) e
   once (refused a t) = refl
 
-  pub run-once : run 1 i s ≡ counted (stepping i s)
+  run-once : run 1 i s ≡ counted (stepping i s)
   unfolding run steps counted
   run-once = go (fits i s) refl
     where
       go : (c : Bool) → fits i s ≡ c → pick c (steps 1 i s) (report (number wrongLength) 0 0 s) ≡ tallied (step i s) (made i s (step i s))
       go true e = once (step i s)
       go false e = rw (step-unfit i s e)
+
+pub heard-once : {i : List ℕ} {s : State} {x : Returned Numbers} → Tells heard (run 1) i s x → Tells heard oneStep i s x
+heard-once {i} {s} h = record { is = h .is ∙ run-once i s }

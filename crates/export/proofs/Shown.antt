@@ -8,7 +8,7 @@ use lib.ListN.{length, take, drop}
 use borrow.Author.Tests.{ne-eqb, eq-eqb}
 use Rattle.rules.specs.Machine.{pick, _also_, cpu, vdp, size, reach}
 use Rattle.rules.specs.Calls.{Memory, cpuRam, vdpRam, kindOf, viewed, view}
-use Rattle.export.specs.Heard.{bytesOf, shown, named, spot}
+use Rattle.export.specs.Meaning.{bytesOf, shown, named, Shows}
 
 -- ---- by the memory's number
 
@@ -55,17 +55,19 @@ module _ (p v : List ℕ) (at len : ℕ) where
 -- ---- with the offset 0 where none are
 
 module _ (m : ℕ) (p v : List ℕ) (at len n : ℕ) (e : n ≡ length (shown m p v at len)) where
-  abbrev Placed : ℕ → Type 0
-  Placed o = (named o n (bytesOf m p v) ≡ shown m p v at len) × (o ∷ n ∷ [] ≡ spot at (shown m p v at len))
-
   there : named at n (bytesOf m p v) ≡ shown m p v at len
   there = ap (λ (k : ℕ). named at k (bytesOf m p v)) e ∙ shown-there p v at len m
 
   empty : n ≡ 0 → (o : ℕ) → named o n (bytesOf m p v) ≡ []
   empty z o = ap (λ (k : ℕ). named o k (bytesOf m p v)) z
 
-  pub placed-none : n ≡ 0 → Placed 0
-  placed-none z = (empty z 0 ∙ sym (empty z at) ∙ there, rw (eq-eqb _ _ (sym e ∙ z)) (ap (λ (k : ℕ). 0 ∷ k ∷ []) e))
+module _ {m : ℕ} {p v : List ℕ} {at len n : ℕ} where
+  pub placed-none : n ≡ length (shown m p v at len) → n ≡ 0 → Shows m p v at len 0 n
+  placed-none e z =
+      record {
+        bytes = empty m p v at len n e z 0 ∙ sym (empty m p v at len n e z at) ∙ there m p v at len n e;
+        place = rw (eq-eqb _ _ (sym e ∙ z)) (ap (λ (k : ℕ). 0 ∷ k ∷ []) e);
+      }
 
-  pub placed : (n ≡ 0 → ⊥) → Placed at
-  placed h = (there, rw (ne-eqb _ _ (λ z. h (e ∙ z))) (ap (λ (k : ℕ). at ∷ k ∷ []) e))
+  pub placed : n ≡ length (shown m p v at len) → (n ≡ 0 → ⊥) → Shows m p v at len at n
+  placed e h = record { bytes = there m p v at len n e; place = rw (ne-eqb _ _ (λ z. h (e ∙ z))) (ap (λ (k : ℕ). at ∷ k ∷ []) e) }

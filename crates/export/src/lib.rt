@@ -1,21 +1,22 @@
 // The public calls for C and Rust. Nothing is asked of a caller but what the types say.
+use bench::at::At;
 use bench::viewer::Memory;
 ghost use mathlib.Core.Path.{_≡_};
 ghost use mathlib.Core.List.{[], _∷_};
 ghost use lib.Dec.{eqb};
 ghost use lib.ListN.{length};
 ghost use Rattle.rules.specs.Machine.{pick};
-ghost use Rattle.rules.specs.Calls.{run, stepBack};
-ghost use Rattle.bench.specs.Told.{lent, outcome, stepping};
-ghost use Rattle.export.specs.Heard.{heard, counted, bytesOf, shown, named, spot};
+ghost use Rattle.rules.specs.Calls.{run};
+ghost use Rattle.machine.specs.Said.{_&_, Image, Journal, Pad, Regs, Vram};
+ghost use Rattle.export.specs.Meaning.{Hears, oneStep, oneBack, Shows, shown};
 
 // ---- steps
 
 // The four numbers in their order.
-fn tell(out: &mut [u64; 4], pc: u16, used: usize, steps: u64, stores: u64)
-    ensures { λ _. ⌜ now (out .exit) ≡ pc ∷ used ∷ steps ∷ stores ∷ [] ⌝ }
+fn tell(out: &mut [u64; 4], at: At, steps: u64, stores: u64)
+    ensures { λ _. ⌜ now (out .exit) ≡ at .pc ∷ at .used ∷ steps ∷ stores ∷ [] ⌝ }
 {
-    *out = [pc as u64, used as u64, steps, stores];
+    *out = [at.pc as u64, at.used as u64, steps, stores];
 }
 
 // A call that was done is one step.
@@ -37,7 +38,7 @@ pub extern "C" fn argolythe_step(
     used: usize,
     out: &mut [u64; 4],
 ) -> u8
-    ensures { λ r. ⌜ heard (now (pad .exit)) (now (vdp .exit)) (now (reg .exit)) (now (journal .exit)) r (now (out .exit)) ≡ counted (stepping (now (image .entry)) (lent (now (pad .entry)) (now (vdp .entry)) (now (reg .entry)) (now (journal .entry)) pc used)) ⌝ }
+    ensures { λ r. ⌜ Hears oneStep (Image image & Pad pad & Vram vdp & Regs reg & Journal journal) pc used r out ⌝ }
 {
     argolythe_run(image, pad, vdp, reg, journal, pc, used, 1, out)
 }
@@ -55,11 +56,12 @@ pub extern "C" fn argolythe_run(
     n: u32,
     out: &mut [u64; 4],
 ) -> u8
-    ensures { λ r. ⌜ heard (now (pad .exit)) (now (vdp .exit)) (now (reg .exit)) (now (journal .exit)) r (now (out .exit)) ≡ run n (now (image .entry)) (lent (now (pad .entry)) (now (vdp .entry)) (now (reg .entry)) (now (journal .entry)) pc used) ⌝ }
+    ensures { λ r. ⌜ Hears (run n) (Image image & Pad pad & Vram vdp & Regs reg & Journal journal) pc used r out ⌝ }
 {
-    let r = bench::runs::run(image, pad, vdp, reg, journal, pc, used, n);
+    let r = bench::runs::run(image, pad, vdp, reg, journal, At { pc, used }, n);
     let steps = r.steps as u64;
-    tell(out, r.pc, r.used, steps, r.stores);
+    let at = r.at;
+    tell(out, at, steps, r.stores);
     r.answer
 }
 
@@ -74,11 +76,12 @@ pub extern "C" fn argolythe_step_back(
     used: usize,
     out: &mut [u64; 4],
 ) -> u8
-    ensures { λ r. ⌜ heard (now (pad .exit)) (now (vdp .exit)) (now (reg .exit)) (now (journal .exit)) r (now (out .exit)) ≡ counted (outcome (stepBack (lent (now (pad .entry)) (now (vdp .entry)) (now (reg .entry)) (now (journal .entry)) pc used)) 0) ⌝ }
+    ensures { λ r. ⌜ Hears oneBack (Pad pad & Vram vdp & Regs reg & Journal journal) pc used r out ⌝ }
 {
-    let r = bench::walk::step_back(pad, vdp, reg, journal, pc, used);
+    let r = bench::walk::step_back(pad, vdp, reg, journal, At { pc, used });
     let steps = steps_of(r.answer);
-    tell(out, r.pc, r.used, steps, r.stores);
+    let at = r.at;
+    tell(out, at, steps, r.stores);
     r.answer
 }
 
@@ -107,7 +110,7 @@ pub extern "C" fn argolythe_view<'a>(
     len: usize,
     offset: &mut usize,
 ) -> usize
-    ensures { λ r. ⌜ (named (now (offset .exit)) r (bytesOf memory (now (pad .entry)) (now (vdp .entry))) ≡ shown memory (now (pad .entry)) (now (vdp .entry)) at len) × (now (offset .exit) ∷ r ∷ [] ≡ spot at (shown memory (now (pad .entry)) (now (vdp .entry)) at len)) ⌝ }
+    ensures { λ r. ⌜ Shows memory (now (pad .entry)) (now (vdp .entry)) at len (now (offset .exit)) r ⌝ }
 {
     let n = seen(pad, vdp, memory, at, len);
     *offset = if n == 0 { 0 } else { at };

@@ -1,4 +1,6 @@
 // What the program can't show: an image of one group, parts of a wrong length, a journal with no room, and no step to take back.
+use bench::at::At;
+use bench::runs::Report;
 use lines::print;
 
 // MOVE from GROM 0 to VDP 0: >8000 bytes, and >8001, which moves one.
@@ -6,21 +8,27 @@ const MOVE_8000: [u8; 7] = [0x31, 0x80, 0x00, 0xA0, 0x00, 0x00, 0x00];
 
 const MOVE_8001: [u8; 7] = [0x31, 0x80, 0x01, 0xA0, 0x00, 0x00, 0x00];
 
-// One step, and what it leaves of a machine that has only its subroutine stack set.
-fn try_step(what: &[u8], image: &[u8], journal: &mut [u32], used: usize) {
+// What a run leaves of a machine that had only its subroutine stack set.
+fn show_run(what: &[u8], r: Report, pad: &[u8; 256], vram: &[u8; 16384], regs: &[u8; 8]) {
     let mut pad0 = [0u8; 256];
-    let mut pad = [0u8; 256];
     let vram0 = [0u8; 16384];
-    let mut vram = [0u8; 16384];
     let regs0 = [0u8; 8];
-    let mut regs = [0u8; 8];
     let mut out = [0u8; 216502];
     pad0[0x73] = 0x7E;
-    pad[0x73] = 0x7E;
-    let r = bench::runs::run(image, &mut pad, &mut vram, &mut regs, journal, 0, used, 1);
-    let count = desk::show::put_run(&mut out, r, &pad0, &pad, &vram0, &vram, &regs0, &regs);
+    let count = desk::show::put_run(&mut out, r, &pad0, pad, &vram0, vram, &regs0, regs);
     io::write_all(1, what);
     desk::show::write_text(&out, count);
+}
+
+// One step of such a machine.
+fn try_step(what: &[u8], image: &[u8], journal: &mut [u32], used: usize) {
+    let mut pad = [0u8; 256];
+    let mut vram = [0u8; 16384];
+    let mut regs = [0u8; 8];
+    pad[0x73] = 0x7E;
+    let at = At { pc: 0, used };
+    let r = bench::runs::run(image, &mut pad, &mut vram, &mut regs, journal, at, 1);
+    show_run(what, r, &pad, &vram, &regs);
 }
 
 fn try_step_back(what: &[u8]) {
@@ -29,9 +37,13 @@ fn try_step_back(what: &[u8]) {
     let mut regs = [0u8; 8];
     let mut journal = [0u32; 8];
     let mut out = [0u8; 78];
-    let r = bench::walk::step_back(&mut pad, &mut vram, &mut regs, &mut journal, 0x1234, 0);
+    let at = At {
+        pc: 0x1234,
+        used: 0,
+    };
+    let r = bench::walk::step_back(&mut pad, &mut vram, &mut regs, &mut journal, at);
     let a = print::put_answer(&mut out, 0, r.answer, 0, r.stores);
-    let count = print::put_pc(&mut out, a, r.pc);
+    let count = print::put_pc(&mut out, a, r.at.pc);
     io::write_all(1, what);
     desk::show::write_text(&out, count);
 }

@@ -13,12 +13,12 @@ use lib.ListN.{length, getD, take, length-append}
 use lib.Seq.{getD-at, take-at, drop-at}
 use borrow.Author.Tests.{lt-ltb, le-leb}
 use Rattle.lines.specs.Digits.{digit, glyph, numeralFrom, numeral, upTo, digitsOf, width, showDecimal, showHex, byteOf, bytes, allHex, byteCount, begins}
-use Rattle.lines.specs.Lines.{Part, grom, pad, vdp, reg, sets, jumps, tab, places, size, setLine, jumping, lineOf}
+use Rattle.lines.specs.Lines.{Part, grom, pad, vdp, reg, sets, jumps, tab, places, size, setLine, jumping, goLine, lineOf}
 use Rattle.lines.specs.Shown.{pcText, cellText}
 use Rattle.lines.proofs.Numerals.{digit-glyph, number-start}
 use Rattle.lines.proofs.Overlay.{length-digits}
 use Rattle.lines.proofs.Reading.{pc-read, placed-in}
-use Rattle.lines.proofs.Widths.{width-holds, width-some}
+use Rattle.lines.proofs.Widths.{width-holds, width-some, bounds}
 
 -- ---- numbers
 
@@ -76,7 +76,7 @@ unfolding upTo
 not-past limit n h = rw (le-leb n limit h)
 
 pub pc-back : (n : ℕ) → n < 65536 → lineOf (pcText n) ≡ jumps n
-unfolding pcText lineOf begins jumping
+unfolding pcText lineOf goLine begins jumping
 pc-back n h =
     let read : numeral 16 (showHex 4 n) ≡ some n = hex-back 4 n (omega arith) h in
     sym (pc-read (showHex 4 n) (some n) (length-hex 4 n) (rw read (not-past 65535 n (omega arith))))
@@ -96,20 +96,13 @@ one-byte b h =
     let whole : (b / 16 % 16 * 16 + b % 16) % 256 ≡ b = omega arith in
     rw (digit-glyph (b / 16 % 16) (omega arith), digit-glyph (b % 16) (omega arith), whole)
 
--- an address within a part has no more digits than are printed
-in-places : (p : Part) → (size p ≤ 16 ^ places p) × (1 ≤ places p)
-in-places grom = (omega arith, omega arith)
-in-places pad = (omega arith, omega arith)
-in-places vdp = (omega arith, omega arith)
-in-places reg = (omega arith, omega arith)
-
 set-back : (p : Part) (at b : ℕ) → at < size p → b < 256 → setLine p (showHex (places p) at ++ (tab ∷ []) ++ showHex 2 b) ≡ sets p at (b ∷ [])
 unfolding setLine
 set-back p at b h l =
     let front = showHex (places p) at in
     let long : length front ≡ places p = length-hex (places p) at in
     let past : length (front ++ (tab ∷ [])) ≡ suc (places p) = length-append front (tab ∷ []) ∙ ap (λ (n : ℕ). n + 1) long ∙ add-one (places p) in
-    let read : numeral 16 front ≡ some at = hex-back (places p) at (in-places p .1) (omega (arith, in-places p .0)) in
+    let read : numeral 16 front ≡ some at = hex-back (places p) at (bounds p .0) (omega (arith, bounds p .2)) in
     let tabbed : getD (front ++ (tab ∷ []) ++ showHex 2 b) (places p) 0 ≡ tab = rw append-assoc (getD-at front tab (showHex 2 b) 0 (places p) long) in
     let fore : take (places p) (front ++ (tab ∷ []) ++ showHex 2 b) ≡ front = rw append-assoc (take-at front (tab ∷ showHex 2 b) (places p) long) in
     let one : 1 ≡ byteCount (showHex 2 b) = sym (two-digits b) in

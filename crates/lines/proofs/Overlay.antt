@@ -25,7 +25,8 @@ laid-set xs at (b ∷ bs) j c h = rw (set-comm xs j at c b (λ e. omega arith)) 
 
 -- ---- from the front
 
-pub word-on : (xs : List ℕ) (at i : ℕ) (w : List ℕ) → i < length w → laid xs (at + i) (drop i w) ≡ laid (set xs (at + i) (getD w i 0)) (at + (i + 1)) (drop (i + 1) w)
+pub word-on : (xs : List ℕ) (at i : ℕ) (w : List ℕ) → i < length w
+    → laid xs (at + i) (drop i w) ≡ laid (set xs (at + i) (getD w i 0)) (at + (i + 1)) (drop (i + 1) w)
 unfolding laid
 word-on xs at i w l = rw (drop-cons w i 0 l, add-one, add-suc)
 
@@ -82,7 +83,8 @@ module _ (xs : List ℕ) (at : ℕ) (text : List ℕ) (from count i : ℕ) where
   bytes-start = rw (add-zero at, add-zero from, sub-zero count)
 
   pub bytes-on : (b : ℕ) → b ≡ byteOf (getD text (from + 2 * i) 0) (getD text (from + 2 * i + 1) 0) → i < count → from + 2 * count ≤ length text
-      → laid xs (at + i) (bytesAt text (from + 2 * i) (count - i)) ≡ laid (set xs (at + i) b) (at + (i + 1)) (bytesAt text (from + 2 * (i + 1)) (count - (i + 1)))
+      → laid xs (at + i) (bytesAt text (from + 2 * i) (count - i))
+      ≡ laid (set xs (at + i) b) (at + (i + 1)) (bytesAt text (from + 2 * (i + 1)) (count - (i + 1)))
   unfolding laid
   bytes-on b e l h =
       let left : count - i ≡ suc (count - (i + 1)) = omega arith in

@@ -10,9 +10,10 @@ use lib.ListN.{length, getD, take, drop, length-append, drop-of-length-le}
 use lib.Seq.{drop-cons, take-append-seam}
 use borrow.Author.Tests.{eq-eqb, ne-eqb}
 use Rattle.lines.specs.Digits.{laid, digitsOf, showHex}
-use Rattle.lines.specs.Lines.{Part, grom, pad, vdp, reg, places}
-use Rattle.lines.specs.Shown.{cellLine, changed, Puts}
+use Rattle.lines.specs.Lines.{Part, places}
+use Rattle.lines.specs.Shown.{cellLine, changed, Puts, Front}
 use Rattle.lines.proofs.Overlay.{laid-append, laid-front}
+use Rattle.lines.proofs.Widths.{bounds}
 -- A text is put together piece after piece, from a place of a buffer on.
 -- Assumes nothing.
 use mathlib.Core.Path.{_≡_, refl, sym, _∙_, subst}
@@ -25,9 +26,10 @@ use lib.ListN.{length, getD, take, drop, length-append, drop-of-length-le}
 use lib.Seq.{drop-cons, take-append-seam}
 use borrow.Author.Tests.{eq-eqb, ne-eqb}
 use Rattle.lines.specs.Digits.{laid, digitsOf, showHex}
-use Rattle.lines.specs.Lines.{Part, grom, pad, vdp, reg, places}
-use Rattle.lines.specs.Shown.{cellLine, changed, Puts}
+use Rattle.lines.specs.Lines.{Part, places}
+use Rattle.lines.specs.Shown.{cellLine, changed, Puts, Front}
 use Rattle.lines.proofs.Overlay.{laid-append, laid-front}
+use Rattle.lines.proofs.Widths.{bounds}
 
 -- ---- the pieces
 
@@ -44,16 +46,11 @@ more {at = at} {was = was} {a = a} {b = b} f g =
 pub within : (n : ℕ) {m at past : ℕ} {was is a : List ℕ} → m ≤ n → Puts m was at a is past → Puts n was at a is past
 within n h f = record { over = f .over; ends = f .ends; fits = omega (arith, h, f .fits) }
 
-pub at-most-4 : (p : Part) → places p ≤ 4
-at-most-4 grom = omega arith
-at-most-4 pad = omega arith
-at-most-4 vdp = omega arith
-at-most-4 reg = omega arith
-
 -- an address, in as many digits as its part has
-pub address : (p : Part) (n : ℕ) {w at past : ℕ} {was is : List ℕ} → w ≡ places p → Puts w was at (digitsOf 16 w n) is past → Puts 4 was at (showHex (places p) n) is past
+pub address : (p : Part) (n : ℕ) {w at past : ℕ} {was is : List ℕ} → w ≡ places p
+    → Puts w was at (digitsOf 16 w n) is past → Puts 4 was at (showHex (places p) n) is past
 unfolding showHex
-address p n e f = rw (← e) (within 4 (omega (arith, e, at-most-4 p)) f)
+address p n e f = rw (← e) (within 4 (omega (arith, e, bounds p .1)) f)
 
 -- ---- a text that is put bit by bit
 
@@ -62,7 +59,8 @@ pub record Owes (was : List ℕ) (at : ℕ) (text rest is : List ℕ) (past : �
   pub over : laid was at text ≡ laid is past rest
   pub ends : at + length text ≡ past + length rest
 
-less : {n at past end : ℕ} {was text a rest is next : List ℕ} → Owes was at text (a ++ rest) is past → Puts n is past a next end → Owes was at text rest next end
+less : {n at past end : ℕ} {was text a rest is next : List ℕ}
+    → Owes was at text (a ++ rest) is past → Puts n is past a next end → Owes was at text rest next end
 less {past = past} {a = a} {rest = rest} {is = is} o f =
     record { over = o .over ∙ rw (laid-append is past a rest, ← f .over, ← f .ends); ends = omega (arith, o .ends, length-append a rest, f .ends) }
 
@@ -88,7 +86,8 @@ module _ (p : Part) (was is : List ℕ) (cell : ℕ) (h : cell < length was) (l 
   left-other e = rw (drop-cons was cell 0 h, drop-cons is cell 0 l, ne-eqb _ _ e, add-one)
 
   -- a cell that is as it was owes nothing
-  pub pass : {at past : ℕ} {old text out : List ℕ} → getD was cell 0 ≡ getD is cell 0 → Owes old at text (left p was is cell) out past → Owes old at text (left p was is (cell + 1)) out past
+  pub pass : {at past : ℕ} {old text out : List ℕ} → getD was cell 0 ≡ getD is cell 0
+      → Owes old at text (left p was is cell) out past → Owes old at text (left p was is (cell + 1)) out past
   pass e o = rw (← left-same e) o
 
   -- one that is not owes its line
@@ -106,8 +105,11 @@ left-end p was is cell l = rw (drop-of-length-le is l) (none-left p cell (drop c
 
 -- ---- what has been put
 
--- at the front of a buffer, it is the buffer's first bytes
-pub front : {n past : ℕ} {was text is : List ℕ} → Puts n was 0 text is past → n ≤ length was → take past is ≡ text
-front {was = was} {text = text} f h =
+first-bytes : {n past : ℕ} {was text is : List ℕ} → Puts n was 0 text is past → n ≤ length was → take past is ≡ text
+first-bytes {was = was} {text = text} f h =
     let short : length text ≤ length was = omega (arith, f .ends, f .fits, h) in
     rw (f .ends, zero-add, f .over, laid-front was text short) (take-append-seam text (drop (length text) was))
+
+-- at the front of a buffer with room for it, it is the buffer's first bytes
+pub front : {n past : ℕ} {was text is : List ℕ} → Puts n was 0 text is past → n ≤ length was → n ≤ length is → Front text is past
+front f h k = record { is = first-bytes f h; fits = omega (arith, f .fits, k) }

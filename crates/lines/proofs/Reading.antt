@@ -12,8 +12,9 @@ use lib.ListN.{length, getD, take, drop, length-drop, List·getD-eq-default}
 use lib.Seq.{take-all, getD-drop, drop-drop}
 use borrow.Author.Tests.{le-leb, lt-leb, leb-true, eq-eqb, ne-eqb, eqb-true}
 use Rattle.lines.specs.Digits.{numeral, upTo, allHex, byteCount, bytes, bytesAt, begins}
-use Rattle.lines.specs.Lines.{Part, grom, pad, vdp, reg, sets, bad, opening, pcOpening, runOpening, places, size, placed, setLine, jumping, pcLine, running, runLine, lineOf}
-use Rattle.lines.proofs.Widths.{either}
+use Rattle.lines.specs.Lines.{Part, grom, pad, vdp, reg, sets, bad, opening, pcOpening, runOpening, places, size}
+use Rattle.lines.specs.Lines.{placed, setLine, jumping, pcLine, running, runLine, goLine, lineOf}
+use Rattle.lines.proofs.Widths.{either, bounds}
 
 -- ---- numbers and bytes
 
@@ -50,18 +51,12 @@ same-bad : (b : Bool) → cond b bad bad ≡ bad
 same-bad true = refl
 same-bad false = refl
 
-sizes : (p : Part) → size p ≤ 32768
-sizes grom = omega arith
-sizes pad = omega arith
-sizes vdp = omega arith
-sizes reg = omega arith
-
 -- an address past 16 bits is past every part
 limited : (p : Part) (y : Option ℕ) (s : List ℕ) → placed p y s ≡ placed p (upTo 65535 y) s
 unfolding placed upTo
 limited p none s = refl
 limited p (some v) s =
-    ⊎-elim (λ l. rw (lt-leb v 65535 l, lt-leb (v + byteCount s) (size p) (omega (arith, sizes p))) (same-bad (eqb (byteCount s) 0)))
+    ⊎-elim (λ l. rw (lt-leb v 65535 l, lt-leb (v + byteCount s) (size p) (omega (arith, bounds p .3))) (same-bad (eqb (byteCount s) 0)))
     (λ l. rw (le-leb v 65535 l)) (either 65535 v)
 
 module _ (p : Part) (s : List ℕ) (start d : ℕ) (e : d ≡ places p) where
@@ -152,16 +147,19 @@ module _ (s : List ℕ) where
         unfolding lineOf
         by-reg r = rw (g, p, v, r)
 
-        module _ (r : begins (opening reg) s ≡ false) where
-          pub by-pc : begins pcOpening s ≡ true → lineOf s ≡ pcLine (drop 3 s)
-          unfolding lineOf
-          by-pc c = rw (g, p, v, r, c)
+        pub by-other : begins (opening reg) s ≡ false → lineOf s ≡ goLine s
+        unfolding lineOf
+        by-other r = rw (g, p, v, r)
 
-          module _ (c : begins pcOpening s ≡ false) where
-            pub by-run : begins runOpening s ≡ true → lineOf s ≡ runLine (drop 4 s)
-            unfolding lineOf
-            by-run u = rw (g, p, v, r, c, u)
+  pub by-pc : begins pcOpening s ≡ true → goLine s ≡ pcLine (take (length s - 3) (drop 3 s))
+  unfolding goLine
+  by-pc c = rw (c, whole s 3)
 
-            pub by-none : begins runOpening s ≡ false → lineOf s ≡ bad
-            unfolding lineOf
-            by-none u = rw (g, p, v, r, c, u)
+  module _ (c : begins pcOpening s ≡ false) where
+    pub by-run : begins runOpening s ≡ true → goLine s ≡ runLine (take (length s - 4) (drop 4 s))
+    unfolding goLine
+    by-run r = rw (c, r, whole s 4)
+
+    pub by-none : begins runOpening s ≡ false → bad ≡ goLine s
+    unfolding goLine
+    by-none r = rw (c, r)

@@ -1,4 +1,4 @@
--- Laws of a decimal's width: one digit below 10, one more than a tenth's above, and at most 20 for 64 bits.
+-- Laws of widths: a decimal has one digit below 10, one more than a tenth's above, and at most 20 for 64 bits; and what bounds a part's addresses.
 -- Assumes nothing.
 use mathlib.Core.Path.{_≡_, refl, ap}
 use mathlib.Core.Bool.{cond}
@@ -9,6 +9,7 @@ use native.Mathlib.Omega.{arith}
 use lib.Dec.{ltb}
 use borrow.Author.Tests.{lt-ltb, le-ltb}
 use Rattle.lines.specs.Digits.{width, widthIn}
+use Rattle.lines.specs.Lines.{Part, grom, pad, vdp, reg, places, size}
 
 -- more turns change nothing
 enough : (f g n : ℕ) → n ≤ f → n ≤ g → widthIn f n ≡ widthIn g n
@@ -45,8 +46,8 @@ holds-in : (f n : ℕ) → n ≤ f → n < 10 ^ widthIn f n
 unfolding widthIn
 holds-in zero n h = omega arith
 holds-in (suc f) n h =
-    ⊎-elim (λ l. rw (lt-ltb n 10 l) (omega arith))
-    (λ l. rw (le-ltb n 10 l, pow-suc) (div-lt-iff-lt-mul {k = 10} {x = n} {y = 10 ^ widthIn f (n / 10)} (omega arith) .0 (holds-in f (n / 10) (omega arith)))) (either n 10)
+    let times = div-lt-iff-lt-mul {k = 10} {x = n} {y = 10 ^ widthIn f (n / 10)} (omega arith) in
+    ⊎-elim (λ l. rw (lt-ltb n 10 l) (omega arith)) (λ l. rw (le-ltb n 10 l, pow-suc) (times .0 (holds-in f (n / 10) (omega arith)))) (either n 10)
 
 pub width-holds : (n : ℕ) → n < 10 ^ width n
 unfolding width
@@ -54,3 +55,12 @@ width-holds n = holds-in n n (omega arith)
 
 pub width-some : (n : ℕ) → 1 ≤ width n
 width-some n = ⊎-elim (λ l. omega (arith, width-one n l)) (λ l. omega (arith, width-more n l)) (either n 10)
+
+-- ---- a part
+
+-- an address has one to four digits, which are enough for the part, and no part is longer than the image
+pub bounds : (p : Part) → (1 ≤ places p) × (places p ≤ 4) × (size p ≤ 16 ^ places p) × (size p ≤ 32768)
+bounds grom = (omega arith, omega arith, omega arith, omega arith)
+bounds pad = (omega arith, omega arith, omega arith, omega arith)
+bounds vdp = (omega arith, omega arith, omega arith, omega arith)
+bounds reg = (omega arith, omega arith, omega arith, omega arith)

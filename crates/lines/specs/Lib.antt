@@ -1,5 +1,5 @@
 pub mod Ascii
 pub mod Digits
 pub mod Lines
+pub mod Meaning
 pub mod Shown
-pub mod Told

@@ -79,8 +79,12 @@ runLine s = running (upTo 4294967295 (numeral 10 s))
 abbrev pub led : List ℕ → List ℕ → (List ℕ → Line) → Line → Line
 led word s f other = cond (begins word s) (f (drop (length word) s)) other
 
+-- "`pc`, `run`": a line that gives no part bytes
+unfoldable pub goLine : List ℕ → Line
+goLine s = led pcOpening s pcLine (led runOpening s runLine bad)
+
 -- a line, without its line feed
 unfoldable pub lineOf : List ℕ → Line
 lineOf s =
-    led (opening grom) s (setLine grom) (led (opening pad) s (setLine pad) (led (opening vdp) s (setLine vdp) (led (opening reg) s (setLine reg)
-    (led pcOpening s pcLine (led runOpening s runLine bad)))))
+    led (opening grom) s (setLine grom) (led (opening pad) s (setLine pad)
+    (led (opening vdp) s (setLine vdp) (led (opening reg) s (setLine reg) (goLine s))))

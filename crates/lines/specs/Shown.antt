@@ -4,7 +4,9 @@ use mathlib.Core.Bool.{cond}
 use mathlib.Core.List.{List, [], _∷_, _++_}
 use Prim.Native.Nat.{ℕ, suc, _+_, _≤_}
 use lib.Dec.{eqb}
-use lib.ListN.{length}
+use lib.ListN.{length, take}
+use denote.Ref.{RefT, now}
+use denote.Triple.Both.{Both}
 use Rattle.lines.specs.Ascii.{ascii}
 use Rattle.lines.specs.Digits.{showDecimal, showHex, laid}
 use Rattle.lines.specs.Lines.{Part, pad, vdp, reg, tab, opening, pcOpening, places}
@@ -51,3 +53,16 @@ pub record Puts (most : ℕ) (was : List ℕ) (at : ℕ) (text is : List ℕ) (p
   pub over : is ≡ laid was at text
   pub ends : past ≡ at + length text
   pub fits : past ≤ at + most
+
+-- the first `count` bytes of a buffer are a text
+pub record Front (text buffer : List ℕ) (count : ℕ) : Type 0 where
+  pub is : take count buffer ≡ text
+  pub fits : count ≤ length buffer
+
+-- a slice that is lent: before the call and after it
+abbrev pub Lent : Type 0
+Lent = Both (RefT (List ℕ)) (RefT (List ℕ))
+
+-- what a contract says of the buffer that it is lent
+abbrev pub Prints : ℕ → List ℕ → Lent → ℕ → ℕ → Type 0
+Prints most text out at past = Puts most (now (out .entry)) at text (now (out .exit)) past

@@ -3,7 +3,7 @@ ghost use mathlib.Core.Path.{_≡_};
 ghost use Prim.Native.Nat.{_<_, _≤_};
 ghost use Rattle.lines.specs.Digits;
 ghost use Rattle.lines.specs.Digits.{upTo, numeral};
-ghost use Rattle.lines.specs.Told.{numberOf};
+ghost use Rattle.lines.specs.Meaning.{numberOf};
 
 pub enum Number {
     Is(u64),

@@ -1,7 +1,7 @@
 // The parts that a line can name.
 ghost use mathlib.Core.Path.{_≡_};
 ghost use Rattle.lines.specs.Lines;
-ghost use Rattle.lines.specs.Told.{partOf};
+ghost use Rattle.lines.specs.Meaning.{partOf};
 
 pub enum Part {
     Grom,

@@ -9,12 +9,12 @@ ghost use Rattle.lines.specs.Digits;
 ghost use Rattle.lines.specs.Digits.{digitsOf, showDecimal};
 ghost use Rattle.lines.specs.Lines.{opening};
 ghost use Rattle.lines.specs.Shown;
-ghost use Rattle.lines.specs.Shown.{Puts, changed};
-ghost use Rattle.lines.specs.Told.{partOf};
+ghost use Rattle.lines.specs.Shown.{Prints, changed};
+ghost use Rattle.lines.specs.Meaning.{partOf};
 
 pub fn put_word(out: &mut [u8], at: usize, word: &[u8]) -> usize
     requires { ⌜ at + length (now word) ≤ length (now out) ⌝ }
-    ensures { λ r. ⌜ Puts (length (now (word .entry))) (now (out .entry)) at (now (word .entry)) (now (out .exit)) r ⌝ }
+    ensures { λ r. ⌜ Prints (length (now (word .entry))) (now (word .entry)) out at r ⌝ }
 {
     let mut i = 0;
     while i < word.len() {
@@ -28,7 +28,7 @@ pub fn put_word(out: &mut [u8], at: usize, word: &[u8]) -> usize
 // The last `width` digits of a number, from the last one on.
 fn put_digits(out: &mut [u8], at: usize, base: u64, width: usize, n: u64) -> usize
     requires { ⌜ (1 ≤ base) × (base ≤ 16) × (at + width ≤ length (now out)) ⌝ }
-    ensures { λ r. ⌜ Puts width (now (out .entry)) at (digitsOf base width n) (now (out .exit)) r ⌝ }
+    ensures { λ r. ⌜ Prints width (digitsOf base width n) out at r ⌝ }
 {
     let mut left = width;
     let mut m = n;
@@ -57,7 +57,7 @@ fn width_of(n: u64) -> usize
 
 fn put_decimal(out: &mut [u8], at: usize, n: u64) -> usize
     requires { ⌜ at + 20 ≤ length (now out) ⌝ }
-    ensures { λ r. ⌜ Puts 20 (now (out .entry)) at (showDecimal n) (now (out .exit)) r ⌝ }
+    ensures { λ r. ⌜ Prints 20 (showDecimal n) out at r ⌝ }
 {
     let width = width_of(n);
     put_digits(out, at, 10, width, n)
@@ -66,7 +66,7 @@ fn put_decimal(out: &mut [u8], at: usize, n: u64) -> usize
 // A part's keyword and a tab.
 fn put_opening(out: &mut [u8], at: usize, part: Part) -> usize
     requires { ⌜ at + 5 ≤ length (now out) ⌝ }
-    ensures { λ r. ⌜ Puts 5 (now (out .entry)) at (opening (partOf part)) (now (out .exit)) r ⌝ }
+    ensures { λ r. ⌜ Prints 5 (opening (partOf part)) out at r ⌝ }
 {
     match part {
         Part::Grom => put_word(out, at, b"grom\t"),
@@ -79,7 +79,7 @@ fn put_opening(out: &mut [u8], at: usize, part: Part) -> usize
 // The answer of a run, its steps and its stores.
 pub fn put_answer(out: &mut [u8], at: usize, answer: u8, steps: u32, stores: u64) -> usize
     requires { ⌜ at + 70 ≤ length (now out) ⌝ }
-    ensures { λ r. ⌜ Puts 70 (now (out .entry)) at (Shown.answerLine answer steps stores) (now (out .exit)) r ⌝ }
+    ensures { λ r. ⌜ Prints 70 (Shown.answerLine answer steps stores) out at r ⌝ }
 {
     let a = put_word(out, at, b"answer\t");
     let b = put_decimal(out, a, answer as u64);
@@ -93,7 +93,7 @@ pub fn put_answer(out: &mut [u8], at: usize, answer: u8, steps: u32, stores: u64
 // The program address.
 pub fn put_pc(out: &mut [u8], at: usize, pc: u16) -> usize
     requires { ⌜ at + 8 ≤ length (now out) ⌝ }
-    ensures { λ r. ⌜ Puts 8 (now (out .entry)) at (Shown.pcLine pc) (now (out .exit)) r ⌝ }
+    ensures { λ r. ⌜ Prints 8 (Shown.pcLine pc) out at r ⌝ }
 {
     let a = put_word(out, at, b"pc\t");
     let b = put_digits(out, a, 16, 4, pc as u64);
@@ -103,7 +103,7 @@ pub fn put_pc(out: &mut [u8], at: usize, pc: u16) -> usize
 // A cell that a run changed.
 pub fn put_cell(out: &mut [u8], at: usize, part: Part, cell: u16, byte: u8) -> usize
     requires { ⌜ at + 13 ≤ length (now out) ⌝ }
-    ensures { λ r. ⌜ Puts 13 (now (out .entry)) at (Shown.cellLine (partOf part) cell byte) (now (out .exit)) r ⌝ }
+    ensures { λ r. ⌜ Prints 13 (Shown.cellLine (partOf part) cell byte) out at r ⌝ }
 {
     let a = put_opening(out, at, part);
     let digits = places(part);
@@ -116,7 +116,7 @@ pub fn put_cell(out: &mut [u8], at: usize, part: Part, cell: u16, byte: u8) -> u
 // Each cell of a part that is not as it was, ascending.
 pub fn put_changed(out: &mut [u8], from: usize, part: Part, was: &[u8], is: &[u8]) -> usize
     requires { ⌜ (length (now is) ≤ 65535) × (length (now is) ≡ length (now was)) × (from + 13 * length (now is) ≤ length (now out)) ⌝ }
-    ensures { λ r. ⌜ Puts (13 * length (now (is .entry))) (now (out .entry)) from (changed (partOf part) 0 (now (was .entry)) (now (is .entry))) (now (out .exit)) r ⌝ }
+    ensures { λ r. ⌜ Prints (13 * length (now (is .entry))) (changed (partOf part) 0 (now (was .entry)) (now (is .entry))) out from r ⌝ }
 {
     let mut past = from;
     let mut cell: u16 = 0;
@@ -134,7 +134,7 @@ pub fn put_changed(out: &mut [u8], from: usize, part: Part, was: &[u8], is: &[u8
 // The number of a line that says nothing.
 pub fn put_bad(out: &mut [u8], at: usize, line: u64) -> usize
     requires { ⌜ at + 25 ≤ length (now out) ⌝ }
-    ensures { λ r. ⌜ Puts 25 (now (out .entry)) at (Shown.badLine line) (now (out .exit)) r ⌝ }
+    ensures { λ r. ⌜ Prints 25 (Shown.badLine line) out at r ⌝ }
 {
     let a = put_word(out, at, b"bad\t");
     let b = put_decimal(out, a, line);

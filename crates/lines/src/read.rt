@@ -12,8 +12,8 @@ ghost use Prim.Native.Nat.{ℕ, _+_, _*_, _≤_};
 ghost use lib.ListN.{length, drop};
 ghost use Rattle.lines.specs.Digits.{begins, bytesAt, laid};
 ghost use Rattle.lines.specs.Lines;
-ghost use Rattle.lines.specs.Lines.{lineOf, setLine};
-ghost use Rattle.lines.specs.Told.{partOf, lineFor, Says};
+ghost use Rattle.lines.specs.Lines.{setLine, goLine, lineOf};
+ghost use Rattle.lines.specs.Meaning.{partOf, lineFor, Says};
 
 // Bytes for a part: the address, where in the text the first digit stands, and how many bytes.
 pub struct Bytes {
@@ -118,6 +118,19 @@ fn run_line(s: &[u8]) -> Line
     }
 }
 
+// A line that gives no part bytes.
+fn go_line(text: &[u8]) -> Line
+    ensures { λ r. ⌜ Says (now (text .entry)) r (goLine (now (text .entry))) ⌝ }
+{
+    if starts(text, b"pc\t") {
+        return pc_line(&text[3..]);
+    }
+    if starts(text, b"run\t") {
+        return run_line(&text[4..]);
+    }
+    Line::Bad
+}
+
 // A whole line, without its line feed.
 pub fn read_line(text: &[u8]) -> Line
     ensures { λ r. ⌜ Says (now (text .entry)) r (lineOf (now (text .entry))) ⌝ }
@@ -134,13 +147,7 @@ pub fn read_line(text: &[u8]) -> Line
     if starts(text, b"reg\t") {
         return set_line(Part::Reg, text, 4);
     }
-    if starts(text, b"pc\t") {
-        return pc_line(&text[3..]);
-    }
-    if starts(text, b"run\t") {
-        return run_line(&text[4..]);
-    }
-    Line::Bad
+    go_line(text)
 }
 
 // The bytes that a line names, put into their part.

@@ -1,13 +1,12 @@
 // One case: lines that set the machine, a run, and lines that say all that it must leave.
 use crate::fields;
+use bench::at::At;
 use bench::runs::Report;
 use desk::obey;
 use desk::obey::Stand;
 use lines::print;
 use lines::read;
 use lines::read::Line;
-ghost use mathlib.Core.Path.{_≡_};
-ghost use lib.ListN.{length};
 
 // The steps of a field that is a run.
 struct Steps {
@@ -26,9 +25,10 @@ fn steps_in(text: &[u8]) -> Steps {
     }
 }
 
-// How far the fields were obeyed: up to a run of so many steps, or to the end; `answered` where one was the answer line, `good` where each says something.
+// How far the fields were obeyed: up to a run of so many steps, or to the end; `answered` where one was the answer line, `good` where each says
+// something.
 struct Course {
-    pc: u16,
+    at: At,
     steps: u32,
     from: usize,
     ran: bool,
@@ -39,17 +39,15 @@ struct Course {
 // A field that is no run, obeyed: what it prints is of no use here.
 fn obey_field(
     text: &[u8],
-    image: &mut [u8],
-    pad: &mut [u8],
-    vram: &mut [u8],
-    regs: &mut [u8],
-    journal: &mut [u32],
-    pc: u16,
-) -> Stand
-    requires { ⌜ (length (now image) ≡ 32768) × (length (now pad) ≡ 256) × (length (now vram) ≡ 16384) × (length (now regs) ≡ 8) ⌝ }
-{
+    image: &mut [u8; 32768],
+    pad: &mut [u8; 256],
+    vram: &mut [u8; 16384],
+    regs: &mut [u8; 8],
+    journal: &mut [u32; 16384],
+    at: At,
+) -> Stand {
     let mut out = [0u8; 216502];
-    obey::obey(text, 0, image, pad, vram, regs, journal, pc, 0, &mut out)
+    obey::obey(text, 0, image, pad, vram, regs, journal, at, &mut out)
 }
 
 // Each field obeyed, up to a run. A field that is the answer line is none to obey.
@@ -58,57 +56,44 @@ fn obey_fields(
     first: usize,
     answer: &[u8],
     text: &mut [u8],
-    image: &mut [u8],
-    pad: &mut [u8],
-    vram: &mut [u8],
-    regs: &mut [u8],
-    journal: &mut [u32],
-) -> Course
-    requires { ⌜ (length (now image) ≡ 32768) × (length (now pad) ≡ 256) × (length (now vram) ≡ 16384) × (length (now regs) ≡ 8) ⌝ }
-{
-    let mut from = first;
-    let mut pc: u16 = 0;
-    let mut answered = false;
-    while from < case.len() {
-        let field = fields::field_at(case, from);
-        let len = fields::as_line(case, from, field.end, text);
-        from = field.next;
-        if fields::same(&text[..len], answer) {
-            answered = true;
+    image: &mut [u8; 32768],
+    pad: &mut [u8; 256],
+    vram: &mut [u8; 16384],
+    regs: &mut [u8; 8],
+    journal: &mut [u32; 16384],
+) -> Course {
+    let mut course = Course {
+        at: obey::first(),
+        steps: 0,
+        from: first,
+        ran: false,
+        answered: false,
+        good: true,
+    };
+    while course.from < case.len() {
+        let field = fields::field_at(case, course.from);
+        let len = fields::as_line(case, course.from, field.end, text);
+        course.from = field.next;
+        let line = &text[..len];
+        if fields::same(line, answer) {
+            course.answered = true;
             continue;
         }
-        let run = steps_in(&text[..len]);
+        let run = steps_in(line);
         if run.is {
-            return Course {
-                pc,
-                steps: run.count,
-                from,
-                ran: true,
-                answered,
-                good: true,
-            };
+            course.steps = run.count;
+            course.ran = true;
+            return course;
         }
-        let stand = obey_field(&text[..len], image, pad, vram, regs, journal, pc);
-        pc = stand.pc;
+        let stand = obey_field(line, image, pad, vram, regs, journal, course.at);
+        let there = stand.at;
+        course.at = there;
+        course.good = stand.good;
         if !stand.good {
-            return Course {
-                pc,
-                steps: 0,
-                from,
-                ran: false,
-                answered,
-                good: false,
-            };
+            return course;
         }
     }
-    Course {
-        pc,
-        steps: 0,
-        from,
-        ran: false,
-        answered,
-        good: true,
-    }
+    course
 }
 
 // Whether the fields after a run say what it has left: its answer line, its pc, and its cells, by what is wanted of them.
@@ -116,15 +101,13 @@ fn as_said(
     case: &[u8],
     first: usize,
     text: &mut [u8],
-    image: &mut [u8],
-    pad: &mut [u8],
-    vram: &mut [u8],
-    regs: &mut [u8],
-    journal: &mut [u32],
+    image: &mut [u8; 32768],
+    pad: &mut [u8; 256],
+    vram: &mut [u8; 16384],
+    regs: &mut [u8; 8],
+    journal: &mut [u32; 16384],
     r: Report,
-) -> bool
-    requires { ⌜ (length (now image) ≡ 32768) × (length (now pad) ≡ 256) × (length (now vram) ≡ 16384) × (length (now regs) ≡ 8) ⌝ }
-{
+) -> bool {
     let mut line = [0u8; 80];
     let count = print::put_answer(&mut line, 0, r.answer, r.steps, r.stores);
     let answer = fields::unended(&line, count);
@@ -132,29 +115,36 @@ fn as_said(
     if course.ran {
         return false;
     }
-    course.good && course.answered && course.pc == r.pc
+    course.good && course.answered && course.at.pc == r.at.pc
+}
+
+// Whether every cell is as it is wanted.
+fn all_same(
+    pad: &[u8; 256],
+    want_pad: &[u8; 256],
+    vram: &[u8; 16384],
+    want_vram: &[u8; 16384],
+    regs: &[u8; 8],
+    want_regs: &[u8; 8],
+) -> bool {
+    fields::same(pad, want_pad) && fields::same(vram, want_vram) && fields::same(regs, want_regs)
 }
 
 // The run of a case, and whether it leaves what the fields after it say, in every cell.
 fn run_holds(
     case: &[u8],
     text: &mut [u8],
-    image: &mut [u8],
-    pad: &mut [u8],
-    vram: &mut [u8],
-    regs: &mut [u8],
-    journal: &mut [u32],
+    image: &mut [u8; 32768],
+    pad: &mut [u8; 256],
+    vram: &mut [u8; 16384],
+    regs: &mut [u8; 8],
+    journal: &mut [u32; 16384],
     start: Course,
-) -> bool
-    requires { ⌜ (length (now image) ≡ 32768) × (length (now pad) ≡ 256) × (length (now vram) ≡ 16384) × (length (now regs) ≡ 8) ⌝ }
-{
-    let mut want_pad = [0u8; 256];
-    let mut want_vram = [0u8; 16384];
-    let mut want_regs = [0u8; 8];
-    bytes::copy(pad, &mut want_pad);
-    bytes::copy(vram, &mut want_vram);
-    bytes::copy(regs, &mut want_regs);
-    let r = bench::runs::run(image, pad, vram, regs, journal, start.pc, 0, start.steps);
+) -> bool {
+    let mut want_pad = *pad;
+    let mut want_vram = *vram;
+    let mut want_regs = *regs;
+    let r = bench::runs::run(image, pad, vram, regs, journal, start.at, start.steps);
     let said = as_said(
         case,
         start.from,
@@ -166,24 +156,20 @@ fn run_holds(
         journal,
         r,
     );
-    let pads = fields::same(pad, &want_pad);
-    let vrams = fields::same(vram, &want_vram);
-    let others = fields::same(regs, &want_regs);
-    said && pads && vrams && others
+    let kept = all_same(pad, &want_pad, vram, &want_vram, regs, &want_regs);
+    said && kept
 }
 
 // A case from its third field on: the first two are words.
 fn run_case(
     case: &[u8],
     text: &mut [u8],
-    image: &mut [u8],
-    pad: &mut [u8],
-    vram: &mut [u8],
-    regs: &mut [u8],
-    journal: &mut [u32],
-) -> bool
-    requires { ⌜ (length (now image) ≡ 32768) × (length (now pad) ≡ 256) × (length (now vram) ≡ 16384) × (length (now regs) ≡ 8) ⌝ }
-{
+    image: &mut [u8; 32768],
+    pad: &mut [u8; 256],
+    vram: &mut [u8; 16384],
+    regs: &mut [u8; 8],
+    journal: &mut [u32; 16384],
+) -> bool {
     let first = fields::past_words(case);
     let start = obey_fields(case, first, b"", text, image, pad, vram, regs, journal);
     if !start.ran {

@@ -22,16 +22,14 @@ fn judge(case: &[u8], text: &mut [u8]) {
 }
 
 fn judge_lines(fd: i32, chunk: &mut [u8], line: &mut [u8], text: &mut [u8]) {
-    let mut at = 0;
-    let mut have = 0;
+    let mut span = input::Span { at: 0, have: 0 };
     let mut number: u64 = 0;
     while number < u64::MAX {
-        let next = input::next_line(fd, chunk, at, have, line);
+        let next = input::next_line(fd, chunk, span, line);
         if next.none {
             return;
         }
-        at = next.at;
-        have = next.have;
+        span = next.rest;
         number += 1;
         let len = next.len;
         judge(&line[..len], text);

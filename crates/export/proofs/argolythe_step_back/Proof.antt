@@ -4,41 +4,12 @@ use borrow.Author.Needs.{needs}
 use Rattle.export.proofs.argolythe_step_back.Statement.{statement}
 use Rattle.export.proofs.argolythe_step_back.Tie as tie
 
-step-back-requires : tie.Need-step-back-requires
-step-back-requires c κs = search needs
-
-steps-of-requires : tie.Need-steps-of-requires
-steps-of-requires c κs = search needs
-
-tell-requires : tie.Need-tell-requires
-tell-requires c κs = search needs
-
-same-length : tie.Need-same-length
-same-length c = search needs
-
-same-length-2 : tie.Need-same-length-2
-same-length-2 c = search needs
-
-same-length-3 : tie.Need-same-length-3
-same-length-3 c = search needs
-
-same-length-4 : tie.Need-same-length-4
-same-length-4 c = search needs
-
 returns : tie.Need-returns
 returns c =
-    let at-step-back = c .before .before .before .before .before .before .before .before .before .before .before in
-    heard-reply _ _ _ _ _ _ _ _ _ _ (c .tell .ensures) _ (c .before .before .steps-of .ensures) (at-step-back .step-back .ensures)
+    let at-step-back = c .before .before .before .before .before .before .before .before .before .before .before .before in
+    λ _. heard-reply (c .tell .ensures) (c .before .before .before .steps-of .ensures) (at-step-back .step-back .ensures _)
 
 pub argolythe-step-back-spec : {M : Type 1} → statement M
 argolythe-step-back-spec =
-    tie.close
-    (tie.spec
-    step-back-requires
-    steps-of-requires
-    tell-requires
-    same-length
-    same-length-2
-    same-length-3
-    same-length-4
+    tie.close (tie.spec (search needs) (search needs) (search needs) (search needs) (search needs) (search needs) (search needs)
     returns)

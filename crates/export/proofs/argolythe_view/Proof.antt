@@ -4,14 +4,12 @@ use borrow.Author.Needs.{needs}
 use Rattle.export.proofs.argolythe_view.Statement.{statement}
 use Rattle.export.proofs.argolythe_view.Tie as tie
 
-seen-requires : tie.Need-seen-requires
-seen-requires c κs = search needs
-
 returns : tie.Need-returns
-returns c = placed-none _ _ _ _ _ _ (c .before .seen .ensures) (c .if1 .taken)
+returns c = placed-none (c .before .seen .ensures) (c .if1 .taken)
 
 returns-2 : tie.Need-returns-2
-returns-2 c = placed _ _ _ _ _ _ (c .before .seen .ensures) (c .if1 .left)
+returns-2 c = placed (c .before .seen .ensures) (c .if1 .left)
 
 pub argolythe-view-spec : {M : Type 1} → statement M
-argolythe-view-spec = tie.close (tie.spec seen-requires returns returns-2)
+argolythe-view-spec =
+    tie.close (tie.spec (search needs) returns returns-2)

@@ -4,14 +4,8 @@ use borrow.Author.Needs.{needs}
 use Rattle.export.proofs.seen.Statement.{statement}
 use Rattle.export.proofs.seen.Tie as tie
 
-view-requires : tie.Need-view-requires
-view-requires c κs = search needs
-
 returns : tie.Need-returns
 returns c = shown-pad _ _ _ _ _ _ (c .before .if1 .taken) (c .view .ensures)
-
-view-requires-2 : tie.Need-view-requires-2
-view-requires-2 c κs = search needs
 
 returns-2 : tie.Need-returns-2
 returns-2 c = shown-vdp _ _ _ _ _ _ (c .before .before .if1 .left) (c .before .if2 .taken) (c .view2 .ensures)
@@ -20,4 +14,5 @@ returns-3 : tie.Need-returns-3
 returns-3 c = shown-none _ _ _ _ _ (c .before .if1 .left) (c .if2 .left)
 
 pub seen-spec : {M : Type 1} → statement M
-seen-spec = tie.close (tie.spec view-requires returns view-requires-2 returns-2 returns-3)
+seen-spec =
+    tie.close (tie.spec (search needs) returns (search needs) returns-2 returns-3)

@@ -5,12 +5,6 @@ use borrow.Author.Needs.{needs}
 use Rattle.bench.proofs.fits.all_fit.Statement.{statement}
 use Rattle.bench.proofs.fits.all_fit.Tie as tie
 
-image-fits-requires : tie.Need-image-fits-requires
-image-fits-requires c κs = search needs
-
-parts-fit-requires : tie.Need-parts-fit-requires
-parts-fit-requires c κs = search needs
-
 returns : tie.Need-returns
 unfolding _also_
 returns c = rw (sym (c .before .before .image-fits .ensures) ∙ c .before .if1 .taken) (c .parts-fit .ensures)
@@ -20,4 +14,5 @@ unfolding _also_
 returns-2 c = rw (sym (c .before .image-fits .ensures) ∙ c .if1 .left)
 
 pub all-fit-spec : {M : Type 1} → statement M
-all-fit-spec = tie.close (tie.spec image-fits-requires parts-fit-requires returns returns-2)
+all-fit-spec =
+    tie.close (tie.spec (search needs) (search needs) returns returns-2)

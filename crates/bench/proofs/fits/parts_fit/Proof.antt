@@ -19,11 +19,15 @@ returns-3 c = rw (eq-eqb _ _ (c .before .before .if1 .left), eq-eqb _ _ (c .befo
 
 returns-4 : tie.Need-returns-4
 unfolding partsFit _also_
-returns-4 c = rw (eq-eqb _ _ (c .before .before .before .if1 .left), eq-eqb _ _ (c .before .before .if2 .left), eq-eqb _ _ (c .before .if3 .left), lt-leb _ _ (c .if4 .taken))
+returns-4 c =
+    let at-if2 = c .before .before in
+    rw (eq-eqb _ _ (at-if2 .before .if1 .left), eq-eqb _ _ (at-if2 .if2 .left), eq-eqb _ _ (c .before .if3 .left), lt-leb _ _ (c .if4 .taken))
 
 returns-5 : tie.Need-returns-5
 unfolding partsFit _also_
-returns-5 c = rw (eq-eqb _ _ (c .before .before .before .if1 .left), eq-eqb _ _ (c .before .before .if2 .left), eq-eqb _ _ (c .before .if3 .left), le-leb _ _ (c .if4 .left))
+returns-5 c =
+    let at-if2 = c .before .before in
+    rw (eq-eqb _ _ (at-if2 .before .if1 .left), eq-eqb _ _ (at-if2 .if2 .left), eq-eqb _ _ (c .before .if3 .left), le-leb _ _ (c .if4 .left))
 
 pub parts-fit-spec : {M : Type 1} → statement M
 parts-fit-spec = tie.close (tie.spec returns returns-2 returns-3 returns-4 returns-5)

@@ -6,9 +6,6 @@ use borrow.Author.Needs.{needs}
 use Rattle.lines.proofs.digits.count_bytes.Statement.{statement}
 use Rattle.lines.proofs.digits.count_bytes.Tie as tie
 
-all-hex-requires : tie.Need-all-hex-requires
-all-hex-requires c κs = search needs
-
 returns : tie.Need-returns
 unfolding byteCount
 returns c = rw (sym (c .before .all-hex .ensures) ∙ not-true _ (c .if1 .taken))
@@ -22,4 +19,4 @@ unfolding byteCount
 returns-3 c = rw (sym (c .before .before .all-hex .ensures) ∙ not-false _ (c .before .if1 .left), eq-eqb _ _ (c .if2 .left))
 
 pub count-bytes-spec : {M : Type 1} → statement M
-count-bytes-spec = tie.close (tie.spec all-hex-requires returns returns-2 returns-3)
+count-bytes-spec = tie.close (tie.spec (search needs) returns returns-2 returns-3)

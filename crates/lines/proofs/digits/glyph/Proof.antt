@@ -5,12 +5,9 @@ use borrow.Author.Needs.{needs}
 use Rattle.lines.proofs.digits.glyph.Statement.{statement}
 use Rattle.lines.proofs.digits.glyph.Tie as tie
 
-array-read-result : tie.Need-array-read-result
-array-read-result c = search needs
-
 returns : tie.Need-returns
 unfolding glyph
 returns c = refl
 
 pub glyph-spec : {M : Type 1} → statement M
-glyph-spec = tie.close (tie.spec array-read-result returns)
+glyph-spec = tie.close (tie.spec (search needs) returns)

@@ -5,42 +5,6 @@ use borrow.Author.Needs.{needs}
 use Rattle.lines.proofs.print.put_answer.Statement.{statement}
 use Rattle.lines.proofs.print.put_answer.Tie as tie
 
-slice-aggregate-put-word : tie.Need-slice-aggregate-put-word
-slice-aggregate-put-word c = search needs
-
-put-word-requires : tie.Need-put-word-requires
-put-word-requires c κs = search needs
-
-put-decimal-requires : tie.Need-put-decimal-requires
-put-decimal-requires c κs = search needs
-
-slice-aggregate-put-word-2 : tie.Need-slice-aggregate-put-word-2
-slice-aggregate-put-word-2 c = search needs
-
-put-word-requires-2 : tie.Need-put-word-requires-2
-put-word-requires-2 c κs = search needs
-
-put-decimal-requires-2 : tie.Need-put-decimal-requires-2
-put-decimal-requires-2 c κs = search needs
-
-slice-aggregate-put-word-3 : tie.Need-slice-aggregate-put-word-3
-slice-aggregate-put-word-3 c = search needs
-
-put-word-requires-3 : tie.Need-put-word-requires-3
-put-word-requires-3 c κs = search needs
-
-put-decimal-requires-3 : tie.Need-put-decimal-requires-3
-put-decimal-requires-3 c κs = search needs
-
-slice-aggregate-put-word-4 : tie.Need-slice-aggregate-put-word-4
-slice-aggregate-put-word-4 c = search needs
-
-put-word-requires-4 : tie.Need-put-word-requires-4
-put-word-requires-4 c κs = search needs
-
-same-length : tie.Need-same-length
-same-length c = search needs
-
 returns : tie.Need-returns
 unfolding answerLine
 returns c =
@@ -56,18 +20,5 @@ returns c =
 
 pub put-answer-spec : {M : Type 1} → statement M
 put-answer-spec =
-    tie.close
-    (tie.spec
-    slice-aggregate-put-word
-    put-word-requires
-    put-decimal-requires
-    slice-aggregate-put-word-2
-    put-word-requires-2
-    put-decimal-requires-2
-    slice-aggregate-put-word-3
-    put-word-requires-3
-    put-decimal-requires-3
-    slice-aggregate-put-word-4
-    put-word-requires-4
-    same-length
-    returns)
+    tie.close (tie.spec (search needs) (search needs) (search needs) (search needs) (search needs) (search needs) (search needs)
+    (search needs) (search needs) (search needs) (search needs) (search needs) returns)

@@ -17,17 +17,13 @@ abbrev μ-loop : tie.MeasureT-loop
 loop-holds : tie.Need-loop-holds Inv-loop μ-loop
 loop-holds c = (omega arith, omega arith)
 
-add-k : tie.Need-add-k Inv-loop μ-loop
-add-k c = search needs
-
-loop-less : tie.Need-loop-less Inv-loop μ-loop
-loop-less c = search needs
-
 loop-again : tie.Need-loop-again Inv-loop μ-loop
 loop-again c = (omega (arith, width-more (c .before .loop .m) (c .loop-test .taken)), omega arith)
 
 returns : tie.Need-returns Inv-loop μ-loop
-returns c = (omega (arith, width-one (c .before .loop .m) (omega arith)), omega (arith, width-one (c .before .loop .m) (omega arith), width-to 19 (c .before .before .args .n) (omega arith)))
+returns c =
+    let one = width-one (c .before .loop .m) (omega arith) in
+    (omega arith, omega (arith, width-to 19 (c .before .before .args .n) (omega arith)))
 
 pub width-of-spec : {M : Type 1} → statement M
-width-of-spec = tie.close (tie.spec Inv-loop μ-loop loop-holds add-k loop-less loop-again returns)
+width-of-spec = tie.close (tie.spec Inv-loop μ-loop loop-holds (search needs) (search needs) loop-again returns)

@@ -10,27 +10,20 @@ use Rattle.lines.proofs.read.pc_line.Tie as tie
 returns : tie.Need-returns
 returns c = λ t. says-bad t _ (pc-other _ (c .if1 .taken))
 
-number-of-requires : tie.Need-number-of-requires
-number-of-requires c κs = search needs
-
-enum-known-n : tie.Need-enum-known-n
-enum-known-n c = search needs
-
 cast-pc : tie.Need-cast-pc
 cast-pc c = omega (arith, within-limit _ _ _ (rw (c .before .n .given .1) at (c .before .before .before .number-of .ensures)))
 
-enum-told : tie.Need-enum-told
-enum-told c = search needs
-
 returns-2 : tie.Need-returns-2
 unfolding jumping
-returns-2 c = λ t. record { means = pc-read _ _ (c .before .before .before .before .if1 .left) (rw (c .before .n .given .1) at (c .before .before .before .number-of .ensures)); within = tt }
+returns-2 c =
+    let found = rw (c .before .n .given .1) at (c .before .before .before .number-of .ensures) in
+    λ t. record { means = pc-read _ _ (c .before .before .before .before .if1 .left) found; within = tt }
 
 returns-3 : tie.Need-returns-3
 unfolding jumping
-returns-3 c = λ t. says-bad t _ (pc-read _ _ (c .before .before .before .if1 .left) (rw (c .enum-told .given .1) at (c .before .before .number-of .ensures)))
+returns-3 c =
+    let found = rw (c .enum-told .given .1) at (c .before .before .number-of .ensures) in
+    λ t. says-bad t _ (pc-read _ _ (c .before .before .before .if1 .left) found)
 
 pub pc-line-spec : {M : Type 1} → statement M
-pc-line-spec =
-    tie.close
-    (tie.spec returns number-of-requires enum-known-n cast-pc enum-told returns-2 returns-3)
+pc-line-spec = tie.close (tie.spec returns (search needs) (search needs) cast-pc (search needs) returns-2 returns-3)

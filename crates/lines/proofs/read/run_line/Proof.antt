@@ -7,17 +7,8 @@ use borrow.Author.Needs.{needs}
 use Rattle.lines.proofs.read.run_line.Statement.{statement}
 use Rattle.lines.proofs.read.run_line.Tie as tie
 
-number-of-requires : tie.Need-number-of-requires
-number-of-requires c κs = search needs
-
-enum-known-n : tie.Need-enum-known-n
-enum-known-n c = search needs
-
 cast-steps : tie.Need-cast-steps
 cast-steps c = omega (arith, within-limit _ _ _ (rw (c .before .n .given .1) at (c .before .before .before .number-of .ensures)))
-
-enum-told : tie.Need-enum-told
-enum-told c = search needs
 
 returns : tie.Need-returns
 unfolding running
@@ -28,5 +19,4 @@ unfolding running
 returns-2 c = λ t. says-bad t _ (run-read _ _ (rw (c .enum-told .given .1) at (c .before .before .number-of .ensures)))
 
 pub run-line-spec : {M : Type 1} → statement M
-run-line-spec =
-    tie.close (tie.spec number-of-requires enum-known-n cast-steps enum-told returns returns-2)
+run-line-spec = tie.close (tie.spec (search needs) (search needs) cast-steps (search needs) returns returns-2)

@@ -10,7 +10,9 @@ use Rattle.lines.proofs.read.set_bytes.Statement.{statement}
 use Rattle.lines.proofs.read.set_bytes.Tie as tie
 
 abbrev Inv-loop : tie.InvT-loop
-Inv-loop text from count part₀ at i₀ part i = (laid part₀ at (bytesAt text from count) ≡ laid part (at + i) (bytesAt text (from + 2 * i) (count - i))) × (i ≤ count) × (length part ≡ length part₀)
+Inv-loop text from count part₀ at i₀ part i =
+    (laid part₀ at (bytesAt text from count) ≡ laid part (at + i) (bytesAt text (from + 2 * i) (count - i)))
+    × (i ≤ count) × (length part ≡ length part₀)
 
 abbrev μ-loop : tie.MeasureT-loop
 μ-loop text from count part₀ at i₀ part i = count - i
@@ -18,62 +20,19 @@ abbrev μ-loop : tie.MeasureT-loop
 loop-holds : tie.Need-loop-holds Inv-loop μ-loop
 loop-holds c = (bytes-start _ _ _ _ _ 0, omega arith, refl)
 
-mul-high : tie.Need-mul-high Inv-loop μ-loop
-mul-high c = search needs
-
-add-high : tie.Need-add-high Inv-loop μ-loop
-add-high c = search needs
-
-add-low : tie.Need-add-low Inv-loop μ-loop
-add-low c = search needs
-
-add-cell : tie.Need-add-cell Inv-loop μ-loop
-add-cell c = search needs
-
-shared-slice-read-byte-of : tie.Need-shared-slice-read-byte-of Inv-loop μ-loop
-shared-slice-read-byte-of c = search needs
-
-shared-slice-read-byte-of-2 : tie.Need-shared-slice-read-byte-of-2 Inv-loop μ-loop
-shared-slice-read-byte-of-2 c = search needs
-
-byte-of-requires : tie.Need-byte-of-requires Inv-loop μ-loop
-byte-of-requires c κs = search needs
-
-slice-write-part : tie.Need-slice-write-part Inv-loop μ-loop
-slice-write-part c = search needs
-
-add-i : tie.Need-add-i Inv-loop μ-loop
-add-i c = search needs
-
-loop-less : tie.Need-loop-less Inv-loop μ-loop
-loop-less c = search needs
-
 loop-again : tie.Need-loop-again Inv-loop μ-loop
-loop-again c = (c .before .before .before .before .loop .inv .0 ∙ bytes-on _ _ _ _ _ _ _ (c .byte-of .ensures) (c .before .before .before .loop-test .taken) (omega arith), omega arith, simp length-set (omega arith))
-
-same-length : tie.Need-same-length Inv-loop μ-loop
-same-length c = search needs
+loop-again c =
+    let at-turn = c .before .before .before in
+    let at-loop = at-turn .before in (
+      at-loop .loop .inv .0 ∙ bytes-on _ _ _ _ _ _ _ (c .byte-of .ensures) (at-turn .loop-test .taken) (omega arith),
+      omega arith,
+      simp length-set (omega arith),
+    )
 
 returns : tie.Need-returns Inv-loop μ-loop
 returns c = sym (c .before .loop .inv .0 ∙ bytes-end _ _ _ _ _ _ (c .loop-test .left))
 
 pub set-bytes-spec : {M : Type 1} → statement M
 set-bytes-spec =
-    tie.close
-    (tie.spec
-    Inv-loop
-    μ-loop
-    loop-holds
-    mul-high
-    add-high
-    add-low
-    add-cell
-    shared-slice-read-byte-of
-    shared-slice-read-byte-of-2
-    byte-of-requires
-    slice-write-part
-    add-i
-    loop-less
-    loop-again
-    same-length
-    returns)
+    tie.close (tie.spec Inv-loop μ-loop loop-holds (search needs) (search needs) (search needs) (search needs) (search needs)
+    (search needs) (search needs) (search needs) (search needs) (search needs) loop-again (search needs) returns)

@@ -21,43 +21,20 @@ loop-holds c = (refl, omega arith)
 returns : tie.Need-returns Inv-loop μ-loop
 returns c = sym (c .before .before .loop .inv .0 ∙ begins-short _ _ _ (c .before .loop-test .taken) (c .if1 .taken))
 
-shared-slice-read-if2 : tie.Need-shared-slice-read-if2 Inv-loop μ-loop
-shared-slice-read-if2 c = search needs
-
-shared-slice-read-if2-2 : tie.Need-shared-slice-read-if2-2 Inv-loop μ-loop
-shared-slice-read-if2-2 c = search needs
-
 returns-2 : tie.Need-returns-2 Inv-loop μ-loop
 returns-2 c =
-    let at-loop = c .before .before .before .before .before in
-    sym (at-loop .loop .inv .0 ∙ begins-off _ _ _ (c .before .before .before .before .loop-test .taken) (c .before .before .before .if1 .left) (c .if2 .taken))
-
-add-i : tie.Need-add-i Inv-loop μ-loop
-add-i c = search needs
-
-loop-less : tie.Need-loop-less Inv-loop μ-loop
-loop-less c = search needs
+    let at-if1 = c .before .before .before in
+    sym (at-if1 .before .before .loop .inv .0 ∙ begins-off _ _ _ (at-if1 .before .loop-test .taken) (at-if1 .if1 .left) (c .if2 .taken))
 
 loop-again : tie.Need-loop-again Inv-loop μ-loop
 loop-again c =
-    let at-loop = c .before .before .before .before .before in
-    (at-loop .loop .inv .0 ∙ begins-on _ _ _ (c .before .before .before .before .loop-test .taken) (c .before .before .before .if1 .left) (c .if2 .left), omega arith)
+    let at-if1 = c .before .before .before in
+    (at-if1 .before .before .loop .inv .0 ∙ begins-on _ _ _ (at-if1 .before .loop-test .taken) (at-if1 .if1 .left) (c .if2 .left), omega arith)
 
 returns-3 : tie.Need-returns-3 Inv-loop μ-loop
 returns-3 c = sym (c .before .loop .inv .0 ∙ begins-end _ _ _ (c .loop-test .left))
 
 pub starts-spec : {M : Type 1} → statement M
 starts-spec =
-    tie.close
-    (tie.spec
-    Inv-loop
-    μ-loop
-    loop-holds
-    returns
-    shared-slice-read-if2
-    shared-slice-read-if2-2
-    returns-2
-    add-i
-    loop-less
-    loop-again
-    returns-3)
+    tie.close (tie.spec Inv-loop μ-loop loop-holds returns (search needs) (search needs) returns-2 (search needs) (search needs)
+    loop-again returns-3)

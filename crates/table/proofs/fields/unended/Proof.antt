@@ -5,14 +5,8 @@ use borrow.Author.Needs.{needs}
 use Rattle.table.proofs.fields.unended.Statement.{statement}
 use Rattle.table.proofs.fields.unended.Tie as tie
 
-slice-aggregate-result : tie.Need-slice-aggregate-result
-slice-aggregate-result c = search needs
-
 returns : tie.Need-returns
 returns c = search needs
-
-sub-end : tie.Need-sub-end
-sub-end c = search needs
 
 slice-aggregate-result-2 : tie.Need-slice-aggregate-result-2
 slice-aggregate-result-2 c = sym (length-take-le _ _ (search needs))
@@ -21,5 +15,4 @@ returns-2 : tie.Need-returns-2
 returns-2 c = search needs
 
 pub unended-spec : {M : Type 1} → statement M
-unended-spec =
-    tie.close (tie.spec slice-aggregate-result returns sub-end slice-aggregate-result-2 returns-2)
+unended-spec = tie.close (tie.spec (search needs) returns (search needs) slice-aggregate-result-2 returns-2)

@@ -1,0 +1,157 @@
+-- What the public calls take and hand back, in the words of the rules.
+use mathlib.Core.Path.{_≡_}
+use mathlib.Core.Bool.{true}
+use mathlib.Core.List.{List, []}
+use Prim.Native.Nat.{ℕ, _-_, _≤_}
+use lib.Dec.{eqb, leb}
+use lib.ListN.{length, take, drop}
+use denote.Ref.{RefT, now}
+use Rattle.rules.specs.Machine.{pick, Mem, mem, State, state}
+use Rattle.rules.specs.Journal.{Store, blanked}
+use Rattle.rules.specs.Rules.{Out, got, stopped}
+use Rattle.rules.specs.Opcodes.{Task, does}
+use Rattle.rules.specs.Calls as calls
+use Rattle.machine.specs.declared.state.Now.{Now}
+use Rattle.machine.specs.Said.{IsPad, IsVram, IsRegs, Parts, Rest, before, start, end, unseenAll, Stand, outOf}
+use Rattle.bench.specs.declared.at.At.{At}
+use Rattle.bench.specs.declared.walk.Reply as walk
+use Rattle.bench.specs.declared.runs.Report as runs
+use Rattle.bench.specs.declared.viewer.Memory.{Memory}
+use Rattle.bench.specs.declared.viewer.Memory.the-variants.{Cpu, Vdp}
+
+-- ---- where a machine stands
+
+-- at an address, with so many words used, and nothing refused
+abbrev pub begun : ℕ → ℕ → Now
+begun pc u = record { pc = pc; used = u; answer = 0; byte = 0; word = 0 }
+
+abbrev pub stands : Now → At
+stands m = record { pc = m .pc; used = m .used }
+
+-- beside pad, VDP RAM, registers and journal
+abbrev pub stateAt : List ℕ → List ℕ → List ℕ → List ℕ → At → State
+stateAt p v g j at = state (at .pc) (mem p v g j (at .used))
+
+-- ---- what test 11 asks
+
+-- of all but the image, part by part
+pub record Fit (p v g j : RefT (List ℕ)) (at : At) : Type 0 where
+  pub pad : IsPad p
+  pub vram : IsVram v
+  pub regs : IsRegs g
+  pub used : at .used ≤ length (now j)
+
+-- of all
+abbrev pub Fits : RefT (List ℕ) → RefT (List ℕ) → RefT (List ℕ) → RefT (List ℕ) → RefT (List ℕ) → At → Type 0
+Fits i p v g j at = calls.fits (now i) (stateAt (now p) (now v) (now g) (now j) at) ≡ true
+
+-- ---- what a call hands back: the parts as it leaves them, and its result
+
+pub record Returned (A : Type 0) : Type 0 where
+  pub pad : List ℕ
+  pub vram : List ℕ
+  pub regs : List ℕ
+  pub journal : List ℕ
+  pub result : A
+
+abbrev pub returned : {A : Type 0} → List ℕ → List ℕ → List ℕ → List ℕ → A → Returned A
+returned p v g j r = record { pad = p; vram = v; regs = g; journal = j; result = r }
+
+abbrev pub returnedOf : {A : Type 0} → Mem → A → Returned A
+returnedOf m r = returned (m .pad) (m .vram) (m .regs) (m .journal) r
+
+abbrev pub standsAt : {A : Type 0} → Returned A → At → State
+standsAt x at = stateAt (x .pad) (x .vram) (x .regs) (x .journal) at
+
+-- ---- a step or a step back: a reply of the rules, and the number of byte stores
+
+pub record Outcome : Type 0 where
+  pub reply : calls.Reply
+  pub stores : ℕ
+
+abbrev pub outcome : calls.Reply → ℕ → Outcome
+outcome r n = record { reply = r; stores = n }
+
+-- an answer of 0 is a call that was done; any other is a refusal by that number
+unfoldable pub replies : ℕ → State → calls.Reply
+replies a s = pick (eqb a 0) (calls.done s) (calls.refused a s)
+
+-- the state in which the next call finds the machine
+abbrev pub leaves : Returned walk.Reply → State
+leaves x = standsAt x (x .result .at)
+
+abbrev pub told : Returned walk.Reply → Outcome
+told x = outcome (replies (x .result .answer) (leaves x)) (x .result .stores)
+
+abbrev pub refusal : ℕ → At → walk.Reply
+refusal a at = record { answer = a; stores = 0; at = at }
+
+-- how an attempt is settled, with the number of its stores: "A refused step puts all back", and reports none
+abbrev pub settled : State → Out (Unit {0}) → List Store → Outcome
+settled s (got a pc m) ss = outcome (calls.done (state pc m)) (length ss)
+settled s (stopped n m) ss = outcome (calls.refused n (state (s .pc) (blanked (m .used - s .mem .used) (s .mem)))) 0
+
+-- a task, its opcode read, past which is pc₁
+abbrev pub beginning : Task → ℕ → List ℕ → State → Outcome
+beginning t pc₁ i s = settled s (calls.begin i (s .pc) (does t) pc₁ (s .mem)) (calls.beginStores i (s .pc) (does t) pc₁ (s .mem))
+
+-- a step past test 11
+abbrev pub settling : List ℕ → State → Outcome
+settling i s = settled s (calls.attempt i s) (calls.stepStores i s)
+
+-- a step
+abbrev pub stepping : List ℕ → State → Outcome
+stepping i s = outcome (calls.step i s) (calls.made i s (calls.step i s))
+
+-- a step back past test 11, whatever the image is
+abbrev pub undoing : List ℕ → State → Outcome
+undoing i s = outcome (calls.fitBack s) 0
+
+-- a step back
+abbrev pub backing : List ℕ → State → Outcome
+backing i s = outcome (calls.stepBack s) 0
+
+-- ---- a run: the rules' report
+
+abbrev pub reported : Returned runs.Report → calls.Report
+reported x = calls.report (x .result .answer) (x .result .steps) (x .result .stores) (standsAt x (x .result .at))
+
+-- ---- what a contract says
+
+-- what a call returns, in the words of the rules, is what they say of an image and a state
+pub record Tells {A B : Type 0} (say : Returned A → B) (f : List ℕ → State → B) (i : List ℕ) (s : State) (x : Returned A) : Type 0 where
+  pub is : say x ≡ f i s
+
+-- the mark and a task, whose opcode is read, past which is pc₁, have brought a machine to where it stands
+pub record Tries (t : Task) (pc₁ : ℕ) (i : List ℕ) (s : State) (e : Stand) : Type 0 where
+  pub is : outOf e ≡ calls.begin i (s .pc) (does t) pc₁ (s .mem)
+
+-- the state that a function is lent, where q are the parts that it sees
+abbrev pub lentTo : (q : Parts) → Rest q → At → State
+lentTo q rest at = state (at .pc) (start q rest (begun (at .pc) (at .used)) .mem)
+
+-- at goes in, and a result or a machine comes out: whatever the rest of the machine is, that is so of what was lent and what is left
+abbrev pub Returns : {A B : Type 0} → (Returned A → B) → (List ℕ → State → B) → (q : Parts) → At → A → Type 0
+Returns say f q at r =
+    (rest : Rest q) → Tells say f (before (q .image) (rest .image)) (lentTo q rest at) (returnedOf (end q rest (begun (at .pc) (at .used)) .mem) r)
+
+abbrev pub Attempts : Task → ℕ → (Parts → Parts) → At → Now → Type 0
+Attempts t pc₁ parts at m =
+    let q : Parts = parts unseenAll in
+    (rest : Rest q) → Tries t pc₁ (before (q .image) (rest .image)) (lentTo q rest at) (end q rest m)
+
+abbrev pub Replies : (List ℕ → State → Outcome) → (Parts → Parts) → At → walk.Reply → Type 0
+Replies f parts at r = Returns told f (parts unseenAll) at r
+
+abbrev pub Reports : (List ℕ → State → calls.Report) → (Parts → Parts) → At → runs.Report → Type 0
+Reports f parts at r = Returns reported f (parts unseenAll) at r
+
+-- ---- the viewer
+
+abbrev pub memoryOf : Memory → calls.Memory
+memoryOf Cpu = calls.cpuRam
+memoryOf Vdp = calls.vdpRam
+
+-- len bytes from an address on, of the first `reach`
+unfoldable pub part : ℕ → List ℕ → ℕ → ℕ → List ℕ
+part reach xs at len = pick (leb at reach) (pick (leb len (reach - at)) (take len (drop at xs)) []) []

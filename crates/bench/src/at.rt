@@ -1,0 +1,33 @@
+// Where a machine stands beside its memories.
+use machine::state::Now;
+ghost use mathlib.Core.Path.{_≡_};
+ghost use Rattle.bench.specs.Meaning.{begun, stands};
+
+// The program address and the used words of the journal. A call takes it and hands the next one back.
+pub struct At {
+    pub pc: u16,
+    pub used: usize,
+}
+
+// A machine that has refused nothing, at an address.
+pub(crate) fn begin(at: At, pc: u16) -> Now
+    ensures { λ r. ⌜ r ≡ begun pc (at .used) ⌝ }
+{
+    Now {
+        pc,
+        used: at.used,
+        answer: 0,
+        byte: 0,
+        word: 0,
+    }
+}
+
+// Where a machine has come to.
+pub(crate) fn reached(m: Now) -> At
+    ensures { λ r. ⌜ r ≡ stands m ⌝ }
+{
+    At {
+        pc: m.pc,
+        used: m.used,
+    }
+}

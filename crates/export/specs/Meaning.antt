@@ -1,0 +1,64 @@
+-- How a caller in C reads the numbers that come out, in the words of the rules.
+use mathlib.Core.Path.{_≡_}
+use mathlib.Core.List.{List, [], _∷_}
+use Prim.Native.Nat.{ℕ}
+use lib.Dec.{eqb}
+use lib.ListN.{length, getD, take, drop}
+use denote.Ref.{now}
+use Rattle.rules.specs.Machine.{pick, State}
+use Rattle.rules.specs.Calls as calls
+use Rattle.machine.specs.Said.{Lent, Parts, unseenAll}
+use Rattle.bench.specs.Meaning.{Returned, standsAt, Outcome, stepping, backing, Returns}
+
+-- ---- steps: the answer, and `out` with pc, used words, steps and stores
+
+pub record Numbers : Type 0 where
+  pub answer : ℕ
+  pub out : List ℕ
+
+-- the report that these make, beside the parts as they are left
+unfoldable pub heard : Returned Numbers → calls.Report
+heard x =
+    let out : List ℕ = x .result .out in
+    calls.report (x .result .answer) (getD out 2 0) (getD out 3 0) (standsAt x (record { pc = getD out 0 0; used = getD out 1 0 }))
+
+-- an address and the used words go in; the answer and `out` are what the rules say of the parts lent
+abbrev pub Hears : (List ℕ → State → calls.Report) → (Parts → Parts) → ℕ → ℕ → ℕ → Lent → Type 0
+Hears f parts pc used answer out = Returns heard f (parts unseenAll) (record { pc = pc; used = used }) (record { answer = answer; out = now (out .exit) })
+
+-- a reply as a report: one step where it was done, none where it was refused
+abbrev pub tallied : calls.Reply → ℕ → calls.Report
+tallied (calls.done t) n = calls.report 0 1 n t
+tallied (calls.refused a t) n = calls.report a 0 n t
+
+unfoldable pub counted : Outcome → calls.Report
+counted o = tallied (o .reply) (o .stores)
+
+abbrev pub oneStep : List ℕ → State → calls.Report
+oneStep i s = counted (stepping i s)
+
+abbrev pub oneBack : List ℕ → State → calls.Report
+oneBack i s = counted (backing i s)
+
+-- ---- the viewer: an offset and a length
+
+-- memory 0 is the pad, memory 1 VDP RAM; no other has a byte
+abbrev pub bytesOf : ℕ → List ℕ → List ℕ → List ℕ
+bytesOf n p v = pick (eqb n 0) p (pick (eqb n 1) v [])
+
+-- what the rules show of it
+unfoldable pub shown : ℕ → List ℕ → List ℕ → ℕ → ℕ → List ℕ
+shown n p v at len = pick (eqb n 0) (calls.view calls.cpuRam p v at len) (pick (eqb n 1) (calls.view calls.vdpRam p v at len) [])
+
+-- the bytes that an offset and a length name
+abbrev pub named : ℕ → ℕ → List ℕ → List ℕ
+named o n xs = take n (drop o xs)
+
+-- the offset and the length of what is shown: the address asked for, or 0 where nothing is
+abbrev pub spot : ℕ → List ℕ → List ℕ
+spot at s = pick (eqb (length s) 0) 0 at ∷ length s ∷ []
+
+-- an offset and a length name the bytes that the rules show, of the memory's own
+pub record Shows (memory : ℕ) (p v : List ℕ) (at len offset n : ℕ) : Type 0 where
+  pub bytes : named offset n (bytesOf memory p v) ≡ shown memory p v at len
+  pub place : offset ∷ n ∷ [] ≡ spot at (shown memory p v at len)
