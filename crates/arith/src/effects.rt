@@ -5,7 +5,7 @@ ghost use mathlib.Core.Path.{_≡_};
 ghost use Prim.Native.Nat.{_<_};
 ghost use Rattle.rules.specs.Arithmetic;
 ghost use Rattle.rules.specs.Arithmetic.{half, span, oneEffect, twoEffect};
-ghost use Rattle.arith.specs.Effects.{oneOf, twoOf, effectOf};
+ghost use Rattle.arith.specs.Meaning.{oneOf, twoOf, effectOf};
 
 pub enum One {
     Abs,

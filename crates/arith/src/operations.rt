@@ -11,9 +11,9 @@ use operand::status;
 use operand::targets::read_target;
 use operand::values;
 ghost use Rattle.rules.specs.Instructions.{storeEffect, oneRule, twoRule, exRule};
-ghost use Rattle.machine.specs.Said.{_&_, Does, Image, IsPad, IsVram, Journal, Pad, Vram};
-ghost use Rattle.operand.specs.Places.{cellOf};
-ghost use Rattle.arith.specs.Effects.{oneOf, twoOf, effectOf};
+ghost use Rattle.machine.specs.Meaning.{_&_, Does, Image, IsPad, IsVram, Journal, Pad, Vram};
+ghost use Rattle.operand.specs.Meaning.{cellOf};
+ghost use Rattle.arith.specs.Meaning.{oneOf, twoOf, effectOf};
 
 // Status first, then the result.
 fn store_effect(

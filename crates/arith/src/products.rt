@@ -13,10 +13,9 @@ ghost use Prim.Native.Nat.{_+_, _≤_, _<_};
 ghost use Rattle.rules.specs.Arithmetic.{half, span};
 ghost use Rattle.rules.specs.Operands.{byteCount, past};
 ghost use Rattle.rules.specs.Instructions;
-ghost use Rattle.rules.specs.Instructions.{mulRule, divStatus, divOverflow, divRule};
-ghost use Rattle.machine.specs.Said.{_&_, Does, Image, IsPad, IsVram, Journal, Pad, Vram};
-ghost use Rattle.operand.specs.Places.{cellOf};
-ghost use Rattle.arith.specs.Halves.{halves};
+ghost use Rattle.rules.specs.Instructions.{halves, mulRule, divStatus, divOverflow, divRule};
+ghost use Rattle.machine.specs.Meaning.{_&_, Does, Image, IsPad, IsVram, Journal, Pad, Vram};
+ghost use Rattle.operand.specs.Meaning.{cellOf};
 
 // The place of the low half.
 fn low_half(wide: bool, place: Place) -> Place

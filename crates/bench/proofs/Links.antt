@@ -12,7 +12,7 @@ use Rattle.rules.specs.Machine.{pick, _also_, cpu, vdp, register, size, reach, 
 use Rattle.rules.specs.Journal.{undo}
 use Rattle.rules.specs.Calls.{partsFit, memFits, Find, scan, backTo, fitBack, stepBack, Memory, kindOf, viewed, view}
 use Rattle.rules.proofs.Fits.{both}
-use Rattle.machine.specs.Said.{foundAt}
+use Rattle.machine.specs.Meaning.{foundAt}
 use Rattle.bench.specs.declared.at.At.{At}
 use Rattle.bench.specs.declared.walk.Reply as walk
 use Rattle.bench.specs.Meaning.{stateAt, Fit, Returned, returned, outcome, replies, told, refusal, undoing, backing, Tells, part}
@@ -20,23 +20,21 @@ use Rattle.bench.specs.Meaning.{stateAt, Fit, Returned, returned, outcom
 -- ---- a step back
 
 pub back-lost : {i p v g j : List ℕ} {at : At} {n : ℕ} (pc : ℕ) → foundAt n pc ≡ scan (at .used) j → n ≡ 0
-    → Tells told undoing i (stateAt p v g j at) (returned p v g j (refusal 12 at))
+    → Tells told undoing (stateAt i p v g j at) (returned i p v g j (refusal 12 at))
 unfolding fitBack replies foundAt
-back-lost {p = p} {v = v} {g = g} {j = j} {at = at} pc e h = record { is = ap (λ (f : Find). outcome (backTo f (stateAt p v g j at)) 0) (rw h at e) }
+back-lost {i = i} {p = p} {v = v} {g = g} {j = j} {at = at} pc e h = record { is = ap (λ (f : Find). outcome (backTo f (stateAt i p v g j at)) 0) (rw h at e) }
 
-pub back-found : {i p v g j : List ℕ} {s : State} {n pc u : ℕ} → foundAt n pc ≡ scan (s .mem .used) (s .mem .journal) → (n ≡ 0 → ⊥)
-    → mem p v g j u ≡ undo n (s .mem)
-    → Tells told undoing i s (returned p v g j (record { answer = 0; stores = 0; at = record { pc = pc; used = u } }))
+pub back-found : {i p v g j : List ℕ} {s : State} {n pc u : ℕ} → foundAt n pc ≡ scan (s .mem .used) (s .mem .journal) → (n ≡ 0 → ⊥) → mem i p v g j u ≡ undo n (s .mem)
+    → Tells told undoing s (returned i p v g j (record { answer = 0; stores = 0; at = record { pc = pc; used = u } }))
 unfolding fitBack replies foundAt
 back-found {s = s} {n = n} e h k = record { is = rw k (ap (λ (f : Find). outcome (backTo f s) 0) (rw (ne-eqb n 0 h) at e)) }
 
-pub back-unfit : {i p v g j : List ℕ} {at : At} {t : Bool} → t ≡ memFits (mem p v g j (at .used)) → t ≡ false
-    → Tells told backing i (stateAt p v g j at) (returned p v g j (refusal 11 at))
+pub back-unfit : {i p v g j : List ℕ} {at : At} {t : Bool} → t ≡ memFits (mem i p v g j (at .used)) → t ≡ false
+    → Tells told backing (stateAt i p v g j at) (returned i p v g j (refusal 11 at))
 unfolding stepBack replies
 back-unfit e h = record { is = rw (sym e ∙ h) }
 
-pub back-fits : {i : List ℕ} {s : State} {x : Returned walk.Reply} {t : Bool} → t ≡ memFits (s .mem) → t ≡ true → Tells told undoing i s x
-    → Tells told backing i s x
+pub back-fits : {s : State} {x : Returned walk.Reply} {t : Bool} → t ≡ memFits (s .mem) → t ≡ true → Tells told undoing s x → Tells told backing s x
 unfolding stepBack
 back-fits e h k = record { is = rw (sym e ∙ h) (k .is) }
 

@@ -20,14 +20,14 @@ use Rattle.bench.proofs.Replies.{accepts, refuses, leads, counts, same-
 
 -- ---- Each contract determines what it speaks of: two outcomes that it allows are equal, every lent byte and the result.
 
-module _ {i : List ℕ} {s : State} where
-  pub step-determined : {x y : Returned walk.Reply} → Tells told stepping i s x → Tells told stepping i s y → x ≡ y
+module _ {s : State} where
+  pub step-determined : {x y : Returned walk.Reply} → Tells told stepping s x → Tells told stepping s y → x ≡ y
   step-determined e k = same-told (e .is ∙ sym (k .is))
 
-  pub step-back-determined : {x y : Returned walk.Reply} → Tells told backing i s x → Tells told backing i s y → x ≡ y
+  pub step-back-determined : {x y : Returned walk.Reply} → Tells told backing s x → Tells told backing s y → x ≡ y
   step-back-determined e k = same-told (e .is ∙ sym (k .is))
 
-  pub run-determined : (n : ℕ) {x y : Returned runs.Report} → Tells reported (run n) i s x → Tells reported (run n) i s y → x ≡ y
+  pub run-determined : (n : ℕ) {x y : Returned runs.Report} → Tells reported (run n) s x → Tells reported (run n) s y → x ≡ y
   run-determined n e k = ap read (e .is ∙ sym (k .is))
     where
       read : Report → Returned runs.Report
@@ -40,31 +40,31 @@ view-determined w p v at len e k = e ∙ sym k
 
 -- ---- a step
 
-module _ {i : List ℕ} {s : State} {x : Returned walk.Reply} (e : Tells told stepping i s x) where
+module _ {s : State} {x : Returned walk.Reply} (e : Tells told stepping s x) where
   -- Demand 1. A refused step: its answer is one of the listed refusals; pc, pad, VDP RAM, registers and used are as before it; the journal words that it
   -- had begun to use are 0, and all others as before. It reports no stores.
-  pub demand1 : (x .result .answer ≡ 0 → ⊥) → Demand1 i s (x .result .answer) (leaves x) × (x .result .stores ≡ 0)
-  demand1 h = (replies-of.demand1 i s (x .result .answer) (leaves x) (refuses e h), counts e ∙ ap (made i s) (refuses e h))
+  pub demand1 : (x .result .answer ≡ 0 → ⊥) → Demand1 s (x .result .answer) (leaves x) × (x .result .stores ≡ 0)
+  demand1 h = (replies-of.demand1 s (x .result .answer) (leaves x) (refuses e h), counts e ∙ ap (made s) (refuses e h))
 
   -- Demand 2. An accepted step: pc and memories are those that the rules give, the count is the number of stores in the rules' list, and the journal has
   -- grown by a word for the step and one for each store.
-  pub demand2 : x .result .answer ≡ 0 → Demand2 i s (leaves x) (x .result .stores)
-  demand2 z = rw (counts e ∙ ap (made i s) (accepts e z)) (replies-of.demand2 i s (leaves x) (accepts e z))
+  pub demand2 : x .result .answer ≡ 0 → Demand2 s (leaves x) (x .result .stores)
+  demand2 z = rw (counts e ∙ ap (made s) (accepts e z)) (replies-of.demand2 s (leaves x) (accepts e z))
 
 -- ---- a run
 
-module _ (n : ℕ) {i : List ℕ} {s : State} {x : Returned runs.Report} (e : Tells reported (run n) i s x) where
+module _ (n : ℕ) {s : State} {x : Returned runs.Report} (e : Tells reported (run n) s x) where
   -- Demand 1. A run answers 0 or with one of the listed refusals; where test 11 fails, it answers 11 and has touched nothing.
   pub run-listed : Answered (x .result .answer)
-  run-listed = subst (λ (r : Report). Answered (r .answer)) (sym (e .is)) (named-run n i s)
+  run-listed = subst (λ (r : Report). Answered (r .answer)) (sym (e .is)) (named-run n s)
 
-  pub run-unfit : fits i s ≡ false → reported x ≡ report (number wrongLength) 0 0 s
-  run-unfit f = e .is ∙ run-of.run-unfit n i s f
+  pub run-unfit : fits (s .mem) ≡ false → reported x ≡ report (number wrongLength) 0 0 s
+  run-unfit f = e .is ∙ run-of.run-unfit n s f
 
   -- Demands 1 and 2. Otherwise it has made n steps, all accepted, or k of them and the next was refused; its steps and stores are those of the accepted
   -- ones, and the state is where they lead, or what the refused one left.
-  pub run-ends : fits i s ≡ true → Ends n i s (reported x)
-  run-ends f = subst (Ends n i s) (sym (e .is)) (run-of.run-ends n i s f)
+  pub run-ends : fits (s .mem) ≡ true → Ends n s (reported x)
+  run-ends f = subst (Ends n s) (sym (e .is)) (run-of.run-ends n s f)
 
 -- ---- a step back
 
@@ -83,7 +83,7 @@ stays s = go (memFits (s .mem)) (scan (s .mem .used) (s .mem .journal))
     go false f = refl
 
 -- Demand 1. A refused step back: its answer is one of the listed refusals, and it has touched nothing.
-pub step-back-refused : {i : List ℕ} {s : State} {x : Returned walk.Reply} → Tells told backing i s x → (x .result .answer ≡ 0 → ⊥)
+pub step-back-refused : {s : State} {x : Returned walk.Reply} → Tells told backing s x → (x .result .answer ≡ 0 → ⊥)
     → Listed (x .result .answer) × (leaves x ≡ s)
 step-back-refused {s = s} e h = (subst NamedReply (refuses e h) (named-back s), subst (StaysAs s) (refuses e h) (stays s))
 
@@ -98,5 +98,5 @@ played (by-step-back {os = os} e c) = played c ∙ ap (play os) (leads e)
 -- Demand 3. From any state with an empty journal, after any sequence of calls of `step` and `step_back`, refused ones among them: pc and memories are those
 -- reached by only the accepted steps not taken back; a step back is refused only when no such step is left; and the journal uses one word for each such
 -- step and one for each store that it made.
-pub demand3 : (s₀ t : State) (os : List Op) → Good s₀ → s₀ .mem .used ≡ 0 → Called s₀ os t → Demand3 s₀ (kept os s₀ []) t
-demand3 s₀ t os g z c = subst (Demand3 s₀ (kept os s₀ [])) (sym (played c)) (history.demand3 s₀ g z os)
+pub demand3 : (s₀ t : State) (os : List Op) → Good s₀ → s₀ .mem .used ≡ 0 → Called s₀ os t → Demand3 s₀ (kept os s₀ 0) t
+demand3 s₀ t os g z c = subst (Demand3 s₀ (kept os s₀ 0)) (sym (played c)) (history.demand3 s₀ g z os)

@@ -19,22 +19,22 @@ unfolding replies
 said-state zero s = refl
 said-state (suc a) s = rw (ne-eqb (suc a) 0 (λ e. omega arith))
 
-module _ {f : List ℕ → State → Outcome} {i : List ℕ} {s : State} {x : Returned walk.Reply} (e : Tells told f i s x) where
-  says : f i s .reply ≡ replies (x .result .answer) (leaves x)
+module _ {f : State → Outcome} {s : State} {x : Returned walk.Reply} (e : Tells told f s x) where
+  says : f s .reply ≡ replies (x .result .answer) (leaves x)
   says = sym (ap (λ (o : Outcome). o .reply) (e .is))
 
-  pub accepts : x .result .answer ≡ 0 → f i s .reply ≡ done (leaves x)
+  pub accepts : x .result .answer ≡ 0 → f s .reply ≡ done (leaves x)
   unfolding replies
   accepts z = says ∙ rw z
 
-  pub refuses : (x .result .answer ≡ 0 → ⊥) → f i s .reply ≡ refused (x .result .answer) (leaves x)
+  pub refuses : (x .result .answer ≡ 0 → ⊥) → f s .reply ≡ refused (x .result .answer) (leaves x)
   unfolding replies
   refuses h = says ∙ rw (ne-eqb (x .result .answer) 0 h)
 
-  pub leads : leaves x ≡ left (f i s .reply)
+  pub leads : leaves x ≡ left (f s .reply)
   leads = sym (ap left says ∙ said-state (x .result .answer) (leaves x))
 
-  pub counts : x .result .stores ≡ f i s .stores
+  pub counts : x .result .stores ≡ f s .stores
   counts = ap (λ (o : Outcome). o .stores) (e .is)
 
 -- what is returned can be read off what it tells

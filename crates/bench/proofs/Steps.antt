@@ -23,20 +23,20 @@ use Rattle.rules.proofs.Steps.{Tried, early, late, tried-begin, rollback-step}
 use Rattle.rules.proofs.Replies.{tried-count}
 use Rattle.rules.proofs.Opcodes.{never-done}
 use Rattle.machine.specs.declared.state.Now.{Now}
-use Rattle.machine.specs.Said.{outs, out, Stand, stand, standing, outOf, Goes}
+use Rattle.machine.specs.Meaning.{outs, Stand, stand, standing, outOf, Goes, began}
 use Rattle.machine.proofs.Chain as chain
-use Rattle.opcode.specs.Classes.{halts, tasks, said}
+use Rattle.opcode.specs.Meaning.{halts, tasks, said}
 use Rattle.bench.specs.declared.at.At.{At}
 use Rattle.bench.specs.declared.walk.Reply as walk
-use Rattle.bench.specs.Meaning.{begun, stateAt, Returned, returned, outcome, replies, told, refusal, settled, beginning, settling, stepping, Tells, Tries}
+use Rattle.bench.specs.Meaning.{stateAt, Returned, returned, outcome, replies, told, refusal, settled, beginning, settling, stepping, Tells, Tries}
 
 -- ---- a task attempted
 
 -- past an opcode, which stood at pc, the mark and the task are the rules' attempt
-pub tries : {i p v g j : List ℕ} {t : Task} {pc pc₁ u : ℕ} {n : Now} {s e : Stand} → n ≡ begun pc₁ u
-    → outOf s ≡ then (out p v g j n) (λ _ pc₂ m₂. takeMark pc pc₂ m₂) → Goes i s (ruleOf t) tt e → Tries t pc₁ i (state pc (mem p v g j u)) e
+pub tries : {i p v g j : List ℕ} {t : Task} {pc pc₁ u : ℕ} {n : Now} {s e : Stand} → n ≡ began pc₁ u
+    → outOf s ≡ then (outOf (standing i p v g j n)) (λ _ pc₂ m₂. takeMark pc pc₂ m₂) → Goes s (ruleOf t) tt e → Tries t pc₁ (state pc (mem i p v g j u)) e
 unfolding begin outs
-tries {i = i} {t = t} b k h = record { is = chain.done h ∙ ap (λ (x : Out (Unit {0})). after i x (ruleOf t)) (k ∙ rw b) }
+tries {t = t} b k h = record { is = chain.done h ∙ ap (λ (x : Out (Unit {0})). after x (ruleOf t)) (k ∙ rw b) }
 
 memOf-outs : (a pc : ℕ) (m : Mem) → memOf (outs a pc m) ≡ m
 unfolding outs
@@ -52,9 +52,9 @@ module _ {pc : ℕ} {m : Mem} where
   tried-fits early l = l
   tried-fits (late h t) l = used-fits t (rw (length-set (m .journal) (m .used) (markWord pc)) h)
 
-module _ {i : List ℕ} {t : Task} {pc₁ a pc₂ : ℕ} {s : State} {m : Mem} (g : Tries t pc₁ i s (stand a pc₂ m)) where
-  tried : Tried (s .pc) (s .mem) (beginStores i (s .pc) (does t) pc₁ (s .mem)) (outs a pc₂ m)
-  tried = rw (g .is) (tried-begin i (s .pc) (s .mem) (does t) pc₁)
+module _ {t : Task} {pc₁ a pc₂ : ℕ} {s : State} {m : Mem} (g : Tries t pc₁ s (stand a pc₂ m)) where
+  tried : Tried (s .pc) (s .mem) (beginStores (s .pc) (does t) pc₁ (s .mem)) (outs a pc₂ m)
+  tried = rw (g .is) (tried-begin (s .pc) (s .mem) (does t) pc₁)
 
   pub used-grows : s .mem .used ≤ m .used
   used-grows = rw (memOf-outs a pc₂ m) at (tried-grows tried)
@@ -62,7 +62,7 @@ module _ {i : List ℕ} {t : Task} {pc₁ a pc₂ : ℕ} {s : State} {m : Mem} (
   pub used-stays : s .mem .used ≤ length (s .mem .journal) → m .used ≤ length (m .journal)
   used-stays l = rw (memOf-outs a pc₂ m) at (tried-fits tried l)
 
-  counted : a ≡ 0 → m .used ≡ suc (s .mem .used) + length (beginStores i (s .pc) (does t) pc₁ (s .mem))
+  counted : a ≡ 0 → m .used ≡ suc (s .mem .used) + length (beginStores (s .pc) (does t) pc₁ (s .mem))
   unfolding outs
   counted z = tried-count (rw z at tried)
 
@@ -74,13 +74,13 @@ module _ {i : List ℕ} {t : Task} {pc₁ a pc₂ : ℕ} {s : State} {m : Mem} (
   unfolding outs
   put-back l b h = rollback-step l b (rw (ne-eqb a 0 h) at tried)
 
-pub task-done : {i p v g j : List ℕ} {t : Task} {pc₁ a pc u n : ℕ} {s : State} → Tries t pc₁ i s (stand a pc (mem p v g j u)) → a ≡ 0 → n ≡ u - s .mem .used - 1
-    → Tells told (beginning t pc₁) i s (returned p v g j (record { answer = 0; stores = n; at = record { pc = pc; used = u } }))
+pub task-done : {i p v g j : List ℕ} {t : Task} {pc₁ a pc u n : ℕ} {s : State} → Tries t pc₁ s (stand a pc (mem i p v g j u)) → a ≡ 0 → n ≡ u - s .mem .used - 1
+    → Tells told (beginning t pc₁) s (returned i p v g j (record { answer = 0; stores = n; at = record { pc = pc; used = u } }))
 unfolding outs replies
 task-done {i} {p} {v} {g} {j} {t} {pc₁} {a} {pc} {u} {n} {s} h z q =
-    let ss : List Store = beginStores i (s .pc) (does t) pc₁ (s .mem) in
+    let ss : List Store = beginStores (s .pc) (does t) pc₁ (s .mem) in
     let count : n ≡ length ss = omega (arith, counted h z) in
-    record { is = ap (outcome (done (state pc (mem p v g j u)))) count ∙ ap (λ (o : Out (Unit {0})). settled s o ss) (rw z at (h .is)) }
+    record { is = ap (outcome (done (state pc (mem i p v g j u)))) count ∙ ap (λ (o : Out (Unit {0})). settled s o ss) (rw z at (h .is)) }
 
 -- bytes are bytes
 abbrev pub AreBytes : List ℕ → Type 0
@@ -92,15 +92,15 @@ bytes-of m a b c vdp n = b n .fits
 bytes-of m a b c register n = c n .fits
 
 pub task-undone : {i p v g j p₂ v₂ g₂ j₂ p₃ v₃ g₃ j₃ : List ℕ} {t : Task} {at : At} {pc₁ a pc₂ u w : ℕ} → at .pc < 65536 → AreBytes p → AreBytes v → AreBytes g
-    → Tries t pc₁ i (stateAt p v g j at) (stand a pc₂ (mem p₂ v₂ g₂ j₂ u)) → (a ≡ 0 → ⊥) → mem p₃ v₃ g₃ j₃ w ≡ undo (u - at .used) (mem p₂ v₂ g₂ j₂ u)
-    → Tells told (beginning t pc₁) i (stateAt p v g j at) (returned p₃ v₃ g₃ j₃ (refusal a at))
+    → Tries t pc₁ (stateAt i p v g j at) (stand a pc₂ (mem i p₂ v₂ g₂ j₂ u)) → (a ≡ 0 → ⊥) → mem i p₃ v₃ g₃ j₃ w ≡ undo (u - at .used) (mem i p₂ v₂ g₂ j₂ u)
+    → Tells told (beginning t pc₁) (stateAt i p v g j at) (returned i p₃ v₃ g₃ j₃ (refusal a at))
 unfolding outs replies
 task-undone {i} {p} {v} {g} {j} {p₃ = p₃} {v₃ = v₃} {g₃ = g₃} {j₃ = j₃} {t = t} {at = at} {pc₁ = pc₁} {a = a} {u = u} {w = w} l bp bv bg h f q =
-    let s : State = stateAt p v g j at in
-    let ss : List Store = beginStores i (at .pc) (does t) pc₁ (s .mem) in
+    let s : State = stateAt i p v g j at in
+    let ss : List Store = beginStores (at .pc) (does t) pc₁ (s .mem) in
     let k : ℕ = u - at .used in
-    let back : mem p₃ v₃ g₃ j₃ w ≡ blanked k (s .mem) = q ∙ put-back h l (bytes-of (s .mem) bp bv bg) f in
-    let same : mem p₃ v₃ g₃ j₃ (at .used) ≡ blanked k (s .mem) = ap (λ (x : Mem). beside (x .journal) (at .used) x) back in
+    let back : mem i p₃ v₃ g₃ j₃ w ≡ blanked k (s .mem) = q ∙ put-back h l (bytes-of (s .mem) bp bv bg) f in
+    let same : mem i p₃ v₃ g₃ j₃ (at .used) ≡ blanked k (s .mem) = ap (λ (x : Mem). beside (x .journal) (at .used) x) back in
     record {
       is = rw (ne-eqb a 0 f) (ap (λ (x : Mem). outcome (refused a (state (at .pc) x)) 0) same
           ∙ ap (λ (o : Out (Unit {0})). settled s o ss) (rw (ne-eqb a 0 f) at (h .is)));
@@ -108,12 +108,12 @@ task-undone {i} {p} {v} {g} {j} {p₃ = p₃} {v₃ = v₃} {g₃ = g₃} {j₃ 
 
 -- ---- an opcode's class, by what the code has of it
 
-stopped-class : (k : Class) (n : ℕ) → halts n ≡ said k → (i : List ℕ) (pc pc₁ : ℕ) (m : Mem) → begin i pc k pc₁ m ≡ stopped n m
+stopped-class : (k : Class) (n : ℕ) → halts n ≡ said k → (pc pc₁ : ℕ) (m : Mem) → begin pc k pc₁ m ≡ stopped n m
 unfolding begin
-stopped-class (stops why) n e i pc pc₁ m =
+stopped-class (stops why) n e pc pc₁ m =
     let q : number why ≡ n = cc in
     ap (λ (x : ℕ). stopped x m) q
-stopped-class (does t) n e i pc pc₁ m = absurd (let z : _≡_ {A = ℕ} 0 1 = cc in omega arith)
+stopped-class (does t) n e pc pc₁ m = absurd (let z : _≡_ {A = ℕ} 0 1 = cc in omega arith)
 
 -- its answer is not 0
 halts-not-0 : (k : Class) (n : ℕ) → halts n ≡ said k → n ≡ 0 → ⊥
@@ -131,90 +131,90 @@ does-class (does u) t e =
 -- ---- the opcode read
 
 -- of a machine that has begun, by where it has
-pub from : {A : Type 0} {i p v g j : List ℕ} {n : Now} {pc u : ℕ} {r : Rule A} {a : A} {t : Stand} → n ≡ begun pc u
-    → Goes i (standing p v g j n) r a t → Goes i (stand 0 pc (mem p v g j u)) r a t
-from {i = i} {p = p} {v = v} {g = g} {j = j} {r = r} {a = a} {t = t} e h = subst (λ (x : Now). Goes i (standing p v g j x) r a t) e h
+pub from : {A : Type 0} {i p v g j : List ℕ} {n : Now} {pc u : ℕ} {r : Rule A} {a : A} {t : Stand} → n ≡ began pc u
+    → Goes (standing i p v g j n) r a t → Goes (stand 0 pc (mem i p v g j u)) r a t
+from {i = i} {p = p} {v = v} {g = g} {j = j} {r = r} {a = a} {t = t} e h = subst (λ (x : Now). Goes (standing i p v g j x) r a t) e h
 
 then-got : {A : Type 0} (o : Out A) → then o (λ v pc m. got v pc m) ≡ o
 then-got (got v pc m) = refl
 then-got (stopped n m) = refl
 
-memOf-next : (i : List ℕ) (pc : ℕ) (m : Mem) → memOf (perform next i pc m) ≡ m
+memOf-next : (pc : ℕ) (m : Mem) → memOf (perform next pc m) ≡ m
 unfolding perform
-memOf-next i pc m = go (ltb pc (length i))
+memOf-next pc m = go (ltb pc (length (m .image)))
   where
-    go : (c : Bool) → memOf (pick c (got (getD i pc 0) (onward pc) m) (stopped (number offGrom) m)) ≡ m
+    go : (c : Bool) → memOf (pick c (got (getD (m .image) pc 0) (onward pc) m) (stopped (number offGrom) m)) ≡ m
     go true = refl
     go false = refl
 
-module _ {i : List ℕ} {b a pc₁ : ℕ} {s : State} {m : Mem} (g : Goes i (stand 0 (s .pc) (s .mem)) nextByte b (stand a pc₁ m)) where
-  next-is : perform next i (s .pc) (s .mem) ≡ valued b (outs a pc₁ m)
+module _ {b a pc₁ : ℕ} {s : State} {m : Mem} (g : Goes (stand 0 (s .pc) (s .mem)) nextByte b (stand a pc₁ m)) where
+  next-is : perform next (s .pc) (s .mem) ≡ valued b (outs a pc₁ m)
   unfolding after outs exec
-  next-is = sym (g .is ∙ then-got (perform next i (s .pc) (s .mem)))
+  next-is = sym (g .is ∙ then-got (perform next (s .pc) (s .mem)))
 
   -- the memories are as they were
-  next-mem : {o : Out ℕ} → perform next i (s .pc) (s .mem) ≡ o → memOf o ≡ s .mem
-  next-mem e = sym (ap memOf e) ∙ memOf-next i (s .pc) (s .mem)
+  next-mem : {o : Out ℕ} → perform next (s .pc) (s .mem) ≡ o → memOf o ≡ s .mem
+  next-mem e = sym (ap memOf e) ∙ memOf-next (s .pc) (s .mem)
 
-  missed : (a ≡ 0 → ⊥) → perform next i (s .pc) (s .mem) ≡ stopped a (s .mem)
+  missed : (a ≡ 0 → ⊥) → perform next (s .pc) (s .mem) ≡ stopped a (s .mem)
   unfolding outs valued
   missed h =
-      let e : perform next i (s .pc) (s .mem) ≡ stopped a m = rw (ne-eqb a 0 h) at next-is in
+      let e : perform next (s .pc) (s .mem) ≡ stopped a m = rw (ne-eqb a 0 h) at next-is in
       e ∙ ap (stopped a) (next-mem e)
 
-  read : a ≡ 0 → perform next i (s .pc) (s .mem) ≡ got b pc₁ (s .mem)
+  read : a ≡ 0 → perform next (s .pc) (s .mem) ≡ got b pc₁ (s .mem)
   unfolding outs valued
   read z =
-      let e : perform next i (s .pc) (s .mem) ≡ got b pc₁ m = rw z at next-is in
+      let e : perform next (s .pc) (s .mem) ≡ got b pc₁ m = rw z at next-is in
       e ∙ ap (got b pc₁) (next-mem e)
 
-  attempt-missed : (a ≡ 0 → ⊥) → attempt i s ≡ stopped a (s .mem)
+  attempt-missed : (a ≡ 0 → ⊥) → attempt s ≡ stopped a (s .mem)
   unfolding attempt
   attempt-missed h = rw (missed h)
 
-  attempt-is : a ≡ 0 → attempt i s ≡ begin i (s .pc) (classOf b) pc₁ (s .mem)
+  attempt-is : a ≡ 0 → attempt s ≡ begin (s .pc) (classOf b) pc₁ (s .mem)
   unfolding attempt
   attempt-is z = rw (read z)
 
-  stores-are : a ≡ 0 → stepStores i s ≡ beginStores i (s .pc) (classOf b) pc₁ (s .mem)
+  stores-are : a ≡ 0 → stepStores s ≡ beginStores (s .pc) (classOf b) pc₁ (s .mem)
   unfolding stepStores
   stores-are z = rw (read z)
 
   -- a task
-  pub step-does : {t : Task} {x : Returned walk.Reply} → a ≡ 0 → tasks t ≡ said (classOf b) → Tells told (beginning t pc₁) i s x → Tells told settling i s x
+  pub step-does : {t : Task} {x : Returned walk.Reply} → a ≡ 0 → tasks t ≡ said (classOf b) → Tells told (beginning t pc₁) s x → Tells told settling s x
   step-does {t} z k e =
       let c : does t ≡ classOf b = sym (does-class (classOf b) t k) in
       record {
-        is = e .is ∙ ap₂ (settled s) (ap (λ (x : Class). begin i (s .pc) x pc₁ (s .mem)) c ∙ sym (attempt-is z))
-            (ap (λ (x : Class). beginStores i (s .pc) x pc₁ (s .mem)) c ∙ sym (stores-are z));
+        is = e .is ∙ ap₂ (settled s) (ap (λ (x : Class). begin (s .pc) x pc₁ (s .mem)) c ∙ sym (attempt-is z))
+            (ap (λ (x : Class). beginStores (s .pc) x pc₁ (s .mem)) c ∙ sym (stores-are z));
       }
 
 -- stopped before the mark
-untouched : {i p v g j : List ℕ} {at : At} {n : ℕ} → (n ≡ 0 → ⊥) → attempt i (stateAt p v g j at) ≡ stopped n (mem p v g j (at .used))
-    → Tells told settling i (stateAt p v g j at) (returned p v g j (refusal n at))
+untouched : {i p v g j : List ℕ} {at : At} {n : ℕ} → (n ≡ 0 → ⊥) → attempt (stateAt i p v g j at) ≡ stopped n (mem i p v g j (at .used))
+    → Tells told settling (stateAt i p v g j at) (returned i p v g j (refusal n at))
 unfolding replies
 untouched {at = at} {n = n} h e = record { is = rw (ne-eqb n 0 h, e, sub-self (at .used)) }
 
-module _ {i p v g j : List ℕ} {at : At} {b a pc₁ : ℕ} {m : Mem} (h : Goes i (stand 0 (at .pc) (mem p v g j (at .used))) nextByte b (stand a pc₁ m)) where
+module _ {i p v g j : List ℕ} {at : At} {b a pc₁ : ℕ} {m : Mem} (h : Goes (stand 0 (at .pc) (mem i p v g j (at .used))) nextByte b (stand a pc₁ m)) where
   -- 6: no opcode
-  pub step-beyond : (a ≡ 0 → ⊥) → Tells told settling i (stateAt p v g j at) (returned p v g j (refusal a at))
+  pub step-beyond : (a ≡ 0 → ⊥) → Tells told settling (stateAt i p v g j at) (returned i p v g j (refusal a at))
   step-beyond f = untouched f (attempt-missed h f)
 
   -- 1, 2 and 3
-  pub step-halted : {n : ℕ} → a ≡ 0 → halts n ≡ said (classOf b) → Tells told settling i (stateAt p v g j at) (returned p v g j (refusal n at))
-  step-halted {n} z k = untouched (halts-not-0 (classOf b) n k) (attempt-is h z ∙ stopped-class (classOf b) n k i (at .pc) pc₁ (mem p v g j (at .used)))
+  pub step-halted : {n : ℕ} → a ≡ 0 → halts n ≡ said (classOf b) → Tells told settling (stateAt i p v g j at) (returned i p v g j (refusal n at))
+  step-halted {n} z k = untouched (halts-not-0 (classOf b) n k) (attempt-is h z ∙ stopped-class (classOf b) n k (at .pc) pc₁ (mem i p v g j (at .used)))
 
 -- ---- the call
 
-as-step : (i : List ℕ) (s : State) (o : Out (Unit {0})) → settled s o (stepStores i s) ≡ outcome (settle s o) (made i s (settle s o))
-as-step i s (got a pc m) = refl
-as-step i s (stopped n m) = refl
+as-step : (s : State) (o : Out (Unit {0})) → settled s o (stepStores s) ≡ outcome (settle s o) (made s (settle s o))
+as-step s (got a pc m) = refl
+as-step s (stopped n m) = refl
 
-pub step-unfit : {i p v g j : List ℕ} {at : At} {t : Bool} → t ≡ fits i (stateAt p v g j at) → t ≡ false
-    → Tells told stepping i (stateAt p v g j at) (returned p v g j (refusal 11 at))
+pub step-unfit : {i p v g j : List ℕ} {at : At} {t : Bool} → t ≡ fits (stateAt i p v g j at .mem) → t ≡ false
+    → Tells told stepping (stateAt i p v g j at) (returned i p v g j (refusal 11 at))
 unfolding step replies
 step-unfit e h = record { is = rw (sym e ∙ h) }
 
-pub step-fits : {i : List ℕ} {s : State} {x : Returned walk.Reply} {t : Bool} → t ≡ fits i s → t ≡ true → Tells told settling i s x → Tells told stepping i s x
+pub step-fits : {s : State} {x : Returned walk.Reply} {t : Bool} → t ≡ fits (s .mem) → t ≡ true → Tells told settling s x → Tells told stepping s x
 unfolding step fitStep
-step-fits {i} {s} e h k = record { is = rw (sym e ∙ h) (k .is ∙ as-step i s (attempt i s)) }
+step-fits {s} e h k = record { is = rw (sym e ∙ h) (k .is ∙ as-step s (attempt s)) }

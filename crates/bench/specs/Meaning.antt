@@ -12,7 +12,7 @@ use Rattle.rules.specs.Rules.{Out, got, stopped}
 use Rattle.rules.specs.Opcodes.{Task, does}
 use Rattle.rules.specs.Calls as calls
 use Rattle.machine.specs.declared.state.Now.{Now}
-use Rattle.machine.specs.Said.{IsPad, IsVram, IsRegs, Parts, Rest, before, start, end, unseenAll, Stand, outOf}
+use Rattle.machine.specs.Meaning.{IsPad, IsVram, IsRegs, Parts, Rest, memBefore, memAfter, end, unseenAll, Stand, outOf}
 use Rattle.bench.specs.declared.at.At.{At}
 use Rattle.bench.specs.declared.walk.Reply as walk
 use Rattle.bench.specs.declared.runs.Report as runs
@@ -21,16 +21,12 @@ use Rattle.bench.specs.declared.viewer.Memory.the-variants.{Cpu, Vdp}
 
 -- ---- where a machine stands
 
--- at an address, with so many words used, and nothing refused
-abbrev pub begun : ℕ → ℕ → Now
-begun pc u = record { pc = pc; used = u; answer = 0; byte = 0; word = 0 }
-
 abbrev pub stands : Now → At
 stands m = record { pc = m .pc; used = m .used }
 
--- beside pad, VDP RAM, registers and journal
-abbrev pub stateAt : List ℕ → List ℕ → List ℕ → List ℕ → At → State
-stateAt p v g j at = state (at .pc) (mem p v g j (at .used))
+-- beside image, pad, VDP RAM, registers and journal
+abbrev pub stateAt : List ℕ → List ℕ → List ℕ → List ℕ → List ℕ → At → State
+stateAt i p v g j at = state (at .pc) (mem i p v g j (at .used))
 
 -- ---- what test 11 asks
 
@@ -43,25 +39,26 @@ pub record Fit (p v g j : RefT (List ℕ)) (at : At) : Type 0 where
 
 -- of all
 abbrev pub Fits : RefT (List ℕ) → RefT (List ℕ) → RefT (List ℕ) → RefT (List ℕ) → RefT (List ℕ) → At → Type 0
-Fits i p v g j at = calls.fits (now i) (stateAt (now p) (now v) (now g) (now j) at) ≡ true
+Fits i p v g j at = calls.fits (stateAt (now i) (now p) (now v) (now g) (now j) at .mem) ≡ true
 
 -- ---- what a call hands back: the parts as it leaves them, and its result
 
 pub record Returned (A : Type 0) : Type 0 where
+  pub image : List ℕ
   pub pad : List ℕ
   pub vram : List ℕ
   pub regs : List ℕ
   pub journal : List ℕ
   pub result : A
 
-abbrev pub returned : {A : Type 0} → List ℕ → List ℕ → List ℕ → List ℕ → A → Returned A
-returned p v g j r = record { pad = p; vram = v; regs = g; journal = j; result = r }
+abbrev pub returned : {A : Type 0} → List ℕ → List ℕ → List ℕ → List ℕ → List ℕ → A → Returned A
+returned i p v g j r = record { image = i; pad = p; vram = v; regs = g; journal = j; result = r }
 
 abbrev pub returnedOf : {A : Type 0} → Mem → A → Returned A
-returnedOf m r = returned (m .pad) (m .vram) (m .regs) (m .journal) r
+returnedOf m r = returned (m .image) (m .pad) (m .vram) (m .regs) (m .journal) r
 
 abbrev pub standsAt : {A : Type 0} → Returned A → At → State
-standsAt x at = stateAt (x .pad) (x .vram) (x .regs) (x .journal) at
+standsAt x at = stateAt (x .image) (x .pad) (x .vram) (x .regs) (x .journal) at
 
 -- ---- a step or a step back: a reply of the rules, and the number of byte stores
 
@@ -92,24 +89,24 @@ settled s (got a pc m) ss = outcome (calls.done (state pc m)) (length ss)
 settled s (stopped n m) ss = outcome (calls.refused n (state (s .pc) (blanked (m .used - s .mem .used) (s .mem)))) 0
 
 -- a task, its opcode read, past which is pc₁
-abbrev pub beginning : Task → ℕ → List ℕ → State → Outcome
-beginning t pc₁ i s = settled s (calls.begin i (s .pc) (does t) pc₁ (s .mem)) (calls.beginStores i (s .pc) (does t) pc₁ (s .mem))
+abbrev pub beginning : Task → ℕ → State → Outcome
+beginning t pc₁ s = settled s (calls.begin (s .pc) (does t) pc₁ (s .mem)) (calls.beginStores (s .pc) (does t) pc₁ (s .mem))
 
 -- a step past test 11
-abbrev pub settling : List ℕ → State → Outcome
-settling i s = settled s (calls.attempt i s) (calls.stepStores i s)
+abbrev pub settling : State → Outcome
+settling s = settled s (calls.attempt s) (calls.stepStores s)
 
 -- a step
-abbrev pub stepping : List ℕ → State → Outcome
-stepping i s = outcome (calls.step i s) (calls.made i s (calls.step i s))
+abbrev pub stepping : State → Outcome
+stepping s = outcome (calls.step s) (calls.made s (calls.step s))
 
--- a step back past test 11, whatever the image is
-abbrev pub undoing : List ℕ → State → Outcome
-undoing i s = outcome (calls.fitBack s) 0
+-- a step back past test 11
+abbrev pub undoing : State → Outcome
+undoing s = outcome (calls.fitBack s) 0
 
 -- a step back
-abbrev pub backing : List ℕ → State → Outcome
-backing i s = outcome (calls.stepBack s) 0
+abbrev pub backing : State → Outcome
+backing s = outcome (calls.stepBack s) 0
 
 -- ---- a run: the rules' report
 
@@ -118,32 +115,35 @@ reported x = calls.report (x .result .answer) (x .result .steps) (x .result .sto
 
 -- ---- what a contract says
 
--- what a call returns, in the words of the rules, is what they say of an image and a state
-pub record Tells {A B : Type 0} (say : Returned A → B) (f : List ℕ → State → B) (i : List ℕ) (s : State) (x : Returned A) : Type 0 where
-  pub is : say x ≡ f i s
+-- what a call returns, in the words of the rules, is what they say of a state
+pub record Tells {A B : Type 0} (say : Returned A → B) (f : State → B) (s : State) (x : Returned A) : Type 0 where
+  pub is : say x ≡ f s
 
 -- the mark and a task, whose opcode is read, past which is pc₁, have brought a machine to where it stands
-pub record Tries (t : Task) (pc₁ : ℕ) (i : List ℕ) (s : State) (e : Stand) : Type 0 where
-  pub is : outOf e ≡ calls.begin i (s .pc) (does t) pc₁ (s .mem)
+pub record Tries (t : Task) (pc₁ : ℕ) (s : State) (e : Stand) : Type 0 where
+  pub is : outOf e ≡ calls.begin (s .pc) (does t) pc₁ (s .mem)
 
 -- the state that a function is lent, where q are the parts that it sees
 abbrev pub lentTo : (q : Parts) → Rest q → At → State
-lentTo q rest at = state (at .pc) (start q rest (begun (at .pc) (at .used)) .mem)
+lentTo q rest at = state (at .pc) (memBefore q rest (at .used))
+
+-- and the one that it leaves
+abbrev pub leftBy : (q : Parts) → Rest q → At → State
+leftBy q rest at = state (at .pc) (memAfter q rest (at .used))
 
 -- at goes in, and a result or a machine comes out: whatever the rest of the machine is, that is so of what was lent and what is left
-abbrev pub Returns : {A B : Type 0} → (Returned A → B) → (List ℕ → State → B) → (q : Parts) → At → A → Type 0
+abbrev pub Returns : {A B : Type 0} → (Returned A → B) → (State → B) → (q : Parts) → At → A → Type 0
 Returns say f q at r =
-    (rest : Rest q) → Tells say f (before (q .image) (rest .image)) (lentTo q rest at) (returnedOf (end q rest (begun (at .pc) (at .used)) .mem) r)
+    (rest : Rest q) → Tells say f (lentTo q rest at) (returnedOf (memAfter q rest (at .used)) r)
 
 abbrev pub Attempts : Task → ℕ → (Parts → Parts) → At → Now → Type 0
 Attempts t pc₁ parts at m =
-    let q : Parts = parts unseenAll in
-    (rest : Rest q) → Tries t pc₁ (before (q .image) (rest .image)) (lentTo q rest at) (end q rest m)
+    (rest : Rest (parts unseenAll)) → Tries t pc₁ (lentTo (parts unseenAll) rest at) (end (parts unseenAll) rest m)
 
-abbrev pub Replies : (List ℕ → State → Outcome) → (Parts → Parts) → At → walk.Reply → Type 0
+abbrev pub Replies : (State → Outcome) → (Parts → Parts) → At → walk.Reply → Type 0
 Replies f parts at r = Returns told f (parts unseenAll) at r
 
-abbrev pub Reports : (List ℕ → State → calls.Report) → (Parts → Parts) → At → runs.Report → Type 0
+abbrev pub Reports : (State → calls.Report) → (Parts → Parts) → At → runs.Report → Type 0
 Reports f parts at r = Returns reported f (parts unseenAll) at r
 
 -- ---- the viewer

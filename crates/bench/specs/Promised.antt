@@ -9,7 +9,5 @@ use Rattle.bench.specs.Meaning.{Returned, leaves, told, Tells, stepping,
 -- "any sequence of steps and step-backs": calls of `step` and `step_back`, each known by its contract, that lead from a state to another
 pub data Called : State → List Op → State → Type 0 where
   no-call : {s : State} → Called s [] s
-  by-step : {i : List ℕ} {s t : State} {os : List Op} {x : Returned walk.Reply} → Tells told stepping i s x → Called (leaves x) os t
-      → Called s (forth i ∷ os) t
-  by-step-back : {i : List ℕ} {s t : State} {os : List Op} {x : Returned walk.Reply} → Tells told backing i s x → Called (leaves x) os t
-      → Called s (aback ∷ os) t
+  by-step : {s t : State} {os : List Op} {x : Returned walk.Reply} → Tells told stepping s x → Called (leaves x) os t → Called s (forth ∷ os) t
+  by-step-back : {s t : State} {os : List Op} {x : Returned walk.Reply} → Tells told backing s x → Called (leaves x) os t → Called s (aback ∷ os) t

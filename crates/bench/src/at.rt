@@ -1,7 +1,9 @@
 // Where a machine stands beside its memories.
+use machine::state;
 use machine::state::Now;
 ghost use mathlib.Core.Path.{_≡_};
-ghost use Rattle.bench.specs.Meaning.{begun, stands};
+ghost use Rattle.machine.specs.Meaning.{began};
+ghost use Rattle.bench.specs.Meaning.{stands};
 
 // The program address and the used words of the journal. A call takes it and hands the next one back.
 pub struct At {
@@ -11,15 +13,9 @@ pub struct At {
 
 // A machine that has refused nothing, at an address.
 pub(crate) fn begin(at: At, pc: u16) -> Now
-    ensures { λ r. ⌜ r ≡ begun pc (at .used) ⌝ }
+    ensures { λ r. ⌜ r ≡ began pc (at .used) ⌝ }
 {
-    Now {
-        pc,
-        used: at.used,
-        answer: 0,
-        byte: 0,
-        word: 0,
-    }
+    state::begin(pc, at.used)
 }
 
 // Where a machine has come to.

@@ -1,4 +1,5 @@
 // Test 11, on lengths alone.
+use machine::cells;
 ghost use mathlib.Core.Path.{_≡_};
 ghost use Rattle.rules.specs.Machine.{_also_};
 ghost use Rattle.rules.specs.Calls.{imageFits, partsFit};
@@ -20,13 +21,13 @@ pub fn image_fits(n: usize) -> bool
 pub fn parts_fit(pad: usize, vram: usize, regs: usize, journal: usize, used: usize) -> bool
     ensures { λ r. ⌜ r ≡ partsFit pad vram regs journal used ⌝ }
 {
-    if pad != 256 {
+    if pad != cells::PAD_SIZE {
         return false;
     }
-    if vram != 16384 {
+    if vram != cells::VDP_REACH {
         return false;
     }
-    if regs != 8 {
+    if regs != cells::REGISTERS {
         return false;
     }
     if 1048576 < journal {

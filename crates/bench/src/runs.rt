@@ -5,7 +5,7 @@ use crate::walk;
 use machine::answers;
 ghost use Rattle.rules.specs.Calls;
 ghost use Rattle.rules.specs.Calls.{steps};
-ghost use Rattle.machine.specs.Said.{_&_, Image, Journal, Pad, Regs, Vram};
+ghost use Rattle.machine.specs.Meaning.{_&_, Image, Journal, Pad, Regs, Vram};
 ghost use Rattle.bench.specs.Meaning.{Fits, Reports};
 
 // What a run leaves: its answer, how many steps were done, how many bytes these stored, and where the machine stands.

@@ -29,10 +29,10 @@ fn part_of<'a>(s: &'a [u8], reach: usize, at: usize, len: usize) -> &'a [u8]
 pub fn view<'a>(pad: &'a [u8], vram: &'a [u8], which: Memory, at: usize, len: usize) -> &'a [u8]
     ensures { λ r. ⌜ now r ≡ Calls.view (memoryOf which) (now (pad .entry)) (now (vram .entry)) at len ⌝ }
 {
-    if pad.len() != 256 {
+    if pad.len() != cells::PAD_SIZE {
         return &pad[..0];
     }
-    if vram.len() != 16384 {
+    if vram.len() != cells::VDP_REACH {
         return &vram[..0];
     }
     match which {

@@ -7,8 +7,8 @@ use machine::state::Now;
 use opcode::class::Class;
 use opcode::class::Task;
 ghost use mathlib.Core.Path.{_≡_};
-ghost use Rattle.opcode.specs.Classes.{taskOf};
-ghost use Rattle.machine.specs.Said.{_&_, Image, Journal, Pad, Regs, Vram};
+ghost use Rattle.opcode.specs.Meaning.{taskOf};
+ghost use Rattle.machine.specs.Meaning.{_&_, Image, Journal, Pad, Regs, Vram};
 ghost use Rattle.bench.specs.Meaning.{Fit, Attempts, Replies, refusal, beginning, settling, stepping, undoing, backing};
 
 // What a call leaves: its answer, how many bytes it stored, and where the machine stands.

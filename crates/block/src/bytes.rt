@@ -7,8 +7,8 @@ ghost use Rattle.rules.specs.Machine.{cpu, register, vdp};
 ghost use Rattle.rules.specs.Operands.{cell, past};
 ghost use Rattle.rules.specs.Instructions.{sourceByte, registerOne, moveByte, fromGrom, fromCell};
 ghost use Rattle.rules.specs.Instructions;
-ghost use Rattle.machine.specs.Said.{_&_, Does, Gives, Image, IsPad, IsRegs, IsVram, Journal, Pad, Regs, Vram};
-ghost use Rattle.block.specs.Ends.{targetOf, originOf};
+ghost use Rattle.machine.specs.Meaning.{_&_, Does, Gives, Image, IsPad, IsRegs, IsVram, Journal, Pad, Regs, Vram};
+ghost use Rattle.block.specs.Meaning.{targetOf, originOf};
 
 // A GROM address counts in 16 bits.
 fn source_byte(image: &[u8], pad: &[u8], vram: &[u8], m: Now, from: Origin, k: u16) -> Now

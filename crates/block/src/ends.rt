@@ -5,9 +5,9 @@ ghost use mathlib.Core.Path.{_≡_};
 ghost use Rattle.rules.specs.Operands.{place};
 ghost use Rattle.rules.specs.Instructions;
 ghost use Rattle.rules.specs.Instructions.{registerCell, moveTarget, gromSource, cellSource, moveSource};
-ghost use Rattle.machine.specs.Said.{_&_, Gives, Image, IsPad, Journal, Pad};
-ghost use Rattle.operand.specs.Places.{cellOf};
-ghost use Rattle.block.specs.Ends.{targetOf, originOf};
+ghost use Rattle.machine.specs.Meaning.{_&_, Gives, Image, IsPad, Journal, Pad};
+ghost use Rattle.operand.specs.Meaning.{cellOf};
+ghost use Rattle.block.specs.Meaning.{targetOf, originOf};
 
 pub enum Target {
     Pad(u16),

@@ -8,8 +8,8 @@ ghost use mathlib.Core.Path.{_≡_};
 ghost use Rattle.rules.specs.Machine.{cpu, vdp};
 ghost use Rattle.rules.specs.Operands.{cell};
 ghost use Rattle.rules.specs.Instructions.{moveCount, moveBytes, moveRule, fromGrom, fromCell};
-ghost use Rattle.machine.specs.Said.{_&_, Does, Image, IsPad, IsRegs, IsVram, Journal, Pad, Regs, Vram};
-ghost use Rattle.block.specs.Ends.{targetOf, originOf};
+ghost use Rattle.machine.specs.Meaning.{_&_, Does, Image, IsPad, IsRegs, IsVram, Journal, Pad, Regs, Vram};
+ghost use Rattle.block.specs.Meaning.{targetOf, originOf};
 
 // How many bytes a length moves: from 1 to >8000 as many, any other one.
 fn move_count(l: u16) -> u16

@@ -8,7 +8,7 @@ use lines::read::Line;
 ghost use mathlib.Core.Path.{_≡_};
 ghost use Prim.Native.Nat.{ℕ, _+_, _*_, _≤_};
 ghost use lib.ListN.{length};
-ghost use Rattle.machine.specs.Said.{_&_, Image, Pad, Vram, Regs, Journal};
+ghost use Rattle.machine.specs.Meaning.{_&_, Image, Pad, Vram, Regs, Journal};
 ghost use Rattle.lines.specs.Digits.{laid, bytesAt};
 ghost use Rattle.lines.specs.Lines.{runs, lineOf};
 ghost use Rattle.desk.specs.Meaning.{outset, quietly, Obeys};

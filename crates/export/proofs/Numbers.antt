@@ -24,34 +24,34 @@ tally zero n s = refl
 tally (suc a) n s = rw (ne-eqb (suc a) 0 (λ e. omega arith))
 
 module _ {i p v g j out : List ℕ} {s : State} where
-  pub heard-report : {f : List ℕ → State → Report} {r : runs.Report} → out ≡ r .at .pc ∷ r .at .used ∷ r .steps ∷ r .stores ∷ []
-      → Tells reported f i s (returned p v g j r) → Tells heard f i s (returned p v g j (record { answer = r .answer; out = out }))
+  pub heard-report : {f : State → Report} {r : runs.Report} → out ≡ r .at .pc ∷ r .at .used ∷ r .steps ∷ r .stores ∷ []
+      → Tells reported f s (returned i p v g j r) → Tells heard f s (returned i p v g j (record { answer = r .answer; out = out }))
   unfolding heard
   heard-report e h = record { is = rw e (h .is) }
 
-  pub heard-reply : {f : List ℕ → State → Outcome} {r : walk.Reply} {k : ℕ} → out ≡ r .at .pc ∷ r .at .used ∷ k ∷ r .stores ∷ []
-      → k ≡ pick (eqb (r .answer) 0) 1 0 → Tells told f i s (returned p v g j r)
-      → Tells heard (λ (l : List ℕ) (t : State). counted (f l t)) i s (returned p v g j (record { answer = r .answer; out = out }))
+  pub heard-reply : {f : State → Outcome} {r : walk.Reply} {k : ℕ} → out ≡ r .at .pc ∷ r .at .used ∷ k ∷ r .stores ∷ []
+      → k ≡ pick (eqb (r .answer) 0) 1 0 → Tells told f s (returned i p v g j r)
+      → Tells heard (λ (t : State). counted (f t)) s (returned i p v g j (record { answer = r .answer; out = out }))
   unfolding heard
-  heard-reply {r = r} e q h = record { is = rw (e, q) (tally (r .answer) (r .stores) (stateAt p v g j (r .at)) ∙ ap counted (h .is)) }
+  heard-reply {r = r} e q h = record { is = rw (e, q) (tally (r .answer) (r .stores) (stateAt i p v g j (r .at)) ∙ ap counted (h .is)) }
 
 -- ---- a run of one step is a step
 
-module _ (i : List ℕ) (s : State) where
-  once : (q : Reply) → onto q (length (stepStores i s)) (report 0 0 0 (left q)) ≡ tallied q (made i s q)
+module _ (s : State) where
+  once : (q : Reply) → onto q (length (stepStores s)) (report 0 0 0 (left q)) ≡ tallied q (made s q)
   once (done t) =
-      let n : ℕ = length (stepStores i s) in
+      let n : ℕ = length (stepStores s) in
       let e : n + 0 ≡ n = omega arith in
       ap (λ (x : ℕ). report 0 1 x t) e
   once (refused a t) = refl
 
-  run-once : run 1 i s ≡ counted (stepping i s)
+  run-once : run 1 s ≡ counted (stepping s)
   unfolding run steps counted
-  run-once = go (fits i s) refl
+  run-once = go (fits (s .mem)) refl
     where
-      go : (c : Bool) → fits i s ≡ c → pick c (steps 1 i s) (report (number wrongLength) 0 0 s) ≡ tallied (step i s) (made i s (step i s))
-      go true e = once (step i s)
-      go false e = rw (step-unfit i s e)
+      go : (c : Bool) → fits (s .mem) ≡ c → pick c (steps 1 s) (report (number wrongLength) 0 0 s) ≡ tallied (step s) (made s (step s))
+      go true e = once (step s)
+      go false e = rw (step-unfit s e)
 
-pub heard-once : {i : List ℕ} {s : State} {x : Returned Numbers} → Tells heard (run 1) i s x → Tells heard oneStep i s x
-heard-once {i} {s} h = record { is = h .is ∙ run-once i s }
+pub heard-once : {s : State} {x : Returned Numbers} → Tells heard (run 1) s x → Tells heard oneStep s x
+heard-once {s} h = record { is = h .is ∙ run-once s }

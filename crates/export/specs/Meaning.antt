@@ -7,7 +7,7 @@ use lib.ListN.{length, getD, take, drop}
 use denote.Ref.{now}
 use Rattle.rules.specs.Machine.{pick, State}
 use Rattle.rules.specs.Calls as calls
-use Rattle.machine.specs.Said.{Lent, Parts, unseenAll}
+use Rattle.machine.specs.Meaning.{Lent, Parts, unseenAll}
 use Rattle.bench.specs.Meaning.{Returned, standsAt, Outcome, stepping, backing, Returns}
 
 -- ---- steps: the answer, and `out` with pc, used words, steps and stores
@@ -23,7 +23,7 @@ heard x =
     calls.report (x .result .answer) (getD out 2 0) (getD out 3 0) (standsAt x (record { pc = getD out 0 0; used = getD out 1 0 }))
 
 -- an address and the used words go in; the answer and `out` are what the rules say of the parts lent
-abbrev pub Hears : (List ℕ → State → calls.Report) → (Parts → Parts) → ℕ → ℕ → ℕ → Lent → Type 0
+abbrev pub Hears : (State → calls.Report) → (Parts → Parts) → ℕ → ℕ → ℕ → Lent → Type 0
 Hears f parts pc used answer out = Returns heard f (parts unseenAll) (record { pc = pc; used = used }) (record { answer = answer; out = now (out .exit) })
 
 -- a reply as a report: one step where it was done, none where it was refused
@@ -34,11 +34,11 @@ tallied (calls.refused a t) n = calls.report a 0 n t
 unfoldable pub counted : Outcome → calls.Report
 counted o = tallied (o .reply) (o .stores)
 
-abbrev pub oneStep : List ℕ → State → calls.Report
-oneStep i s = counted (stepping i s)
+abbrev pub oneStep : State → calls.Report
+oneStep s = counted (stepping s)
 
-abbrev pub oneBack : List ℕ → State → calls.Report
-oneBack i s = counted (backing i s)
+abbrev pub oneBack : State → calls.Report
+oneBack s = counted (backing s)
 
 -- ---- the viewer: an offset and a length
 

@@ -7,7 +7,7 @@ ghost use lib.Dec.{eqb};
 ghost use lib.ListN.{length};
 ghost use Rattle.rules.specs.Machine.{pick};
 ghost use Rattle.rules.specs.Calls.{run};
-ghost use Rattle.machine.specs.Said.{_&_, Image, Journal, Pad, Regs, Vram};
+ghost use Rattle.machine.specs.Meaning.{_&_, Image, Journal, Pad, Regs, Vram};
 ghost use Rattle.export.specs.Meaning.{Hears, oneStep, oneBack, Shows, shown};
 
 // ---- steps

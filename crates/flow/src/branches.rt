@@ -6,7 +6,7 @@ use operand::status;
 ghost use mathlib.Core.Path.{_≡_};
 ghost use Rattle.rules.specs.Instructions;
 ghost use Rattle.rules.specs.Instructions.{jumpInGroup, jumpIf, branchRule, longRule, callRule, rtnRule, rtncRule};
-ghost use Rattle.machine.specs.Said.{_&_, Does, Image, IsPad, Journal, Nothing, Pad};
+ghost use Rattle.machine.specs.Meaning.{_&_, Does, Image, IsPad, Journal, Nothing, Pad};
 
 // To 13 bits within the group of pc.
 pub fn jump_in_group(m: Now, a: u16) -> Now

@@ -10,7 +10,7 @@ ghost use mathlib.Core.Bool.{false};
 ghost use Rattle.rules.specs.Machine.{pick};
 ghost use Rattle.rules.specs.Arithmetic.{extended};
 ghost use Rattle.rules.specs.Instructions.{pushRule, caseRule, fetchRule};
-ghost use Rattle.machine.specs.Said.{_&_, Does, Image, IsPad, IsVram, Journal, Pad, Vram};
+ghost use Rattle.machine.specs.Meaning.{_&_, Does, Image, IsPad, IsVram, Journal, Pad, Vram};
 
 // The low byte onto the data stack.
 pub fn push(

@@ -2,7 +2,7 @@
 use machine::cells;
 use machine::state::Now;
 ghost use Rattle.rules.specs.Instructions.{randRule};
-ghost use Rattle.machine.specs.Said.{_&_, Does, Image, IsPad, Journal, Pad};
+ghost use Rattle.machine.specs.Meaning.{_&_, Does, Image, IsPad, Journal, Pad};
 
 // The seed is stored before the limit is read.
 pub fn rand(image: &[u8], pad: &mut [u8], journal: &mut [u32], m: Now) -> Now

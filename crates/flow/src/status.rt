@@ -4,8 +4,8 @@ use machine::state::Now;
 ghost use mathlib.Core.Path.{_≡_};
 ghost use Rattle.rules.specs.Arithmetic;
 ghost use Rattle.rules.specs.Instructions.{testRule};
-ghost use Rattle.machine.specs.Said.{_&_, Does, IsPad, Journal, Pad};
-ghost use Rattle.flow.specs.Tests.{testOf};
+ghost use Rattle.machine.specs.Meaning.{_&_, Does, IsPad, Journal, Pad};
+ghost use Rattle.flow.specs.Meaning.{testOf};
 
 // H, GT, CARRY, OVF: by the status bit that they test.
 pub enum Test {

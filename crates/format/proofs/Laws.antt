@@ -1,16 +1,13 @@
--- What the proofs share: the three loops of text, a code by its range, and the turns of the loop of codes.
+-- What the proofs share: the three loops of text, a code by its row, and the turns of the loop of codes.
 use mathlib.Core.Path.{_≡_, refl, ap}
 use mathlib.Core.Bool.{Bool, true, false}
-use Prim.Native.Nat.{ℕ, zero, suc, _-_, _*_, _≤_, _<_}
+use Prim.Native.Nat.{ℕ, zero, suc, _+_, _-_, _*_, _/_, _≤_, _<_}
 use native.Mathlib.Omega.{arith}
-use lib.Dec.{ltb}
-use borrow.Author.Tests.{lt-ltb, le-ltb}
-use Rattle.rules.specs.Machine.{pick}
 use Rattle.rules.specs.Answers.{tooLong}
 use Rattle.rules.specs.Rules.{give, _>>=_, need}
-use Rattle.rules.specs.Format.{show, skip, showNext, text, showTimes, showCell, padText, on, goOn, count, codeRule, code, codes}
+use Rattle.rules.specs.Format.{show, showNext, text, showTimes, showCell, padText, on, count, rows, lastRow, inRow, codeRule, code, codes}
 use Rattle.rules.proofs.Loops.{Repeats}
-use Rattle.format.specs.Turns.{turnOf, textCode, highCode}
+use Rattle.format.specs.Meaning.{turnOf}
 
 -- ---- text, a character repeated (neither has a number that goes up) and text from the pad
 
@@ -28,17 +25,12 @@ pad-turns bias = record { none = λ a. refl; more = λ n a. refl }
 
 -- ---- a code
 
--- one below >80
-pub code-text : (bias blocks c : ℕ) → c < 0x80 → codeRule bias blocks c ≡ textCode bias blocks c
-unfolding codeRule textCode
-code-text bias blocks c h = rw (lt-ltb c 0x80 h)
-
--- one from there up
-pub code-further : (bias blocks c : ℕ) → 0x80 ≤ c
-    → codeRule bias blocks c
-    ≡ pick (ltb c 0xA0) (goOn bias blocks (skip (count c))) (pick (ltb c 0xC0) (goOn bias blocks (skip (count c * 32))) (highCode bias blocks c))
-unfolding codeRule highCode
-code-further bias blocks c h = rw (le-ltb c 0x20 (omega arith), le-ltb c 0x40 (omega arith), le-ltb c 0x60 (omega arith), le-ltb c 0x80 h)
+-- by its row: the k-th has the codes from k times 32 on
+pub row : (k bias blocks : ℕ) {c : ℕ} → c < k * 32 + 32 → k * 32 ≤ c → codeRule bias blocks c ≡ inRow k (rows bias blocks (count c)) (lastRow bias blocks c)
+unfolding codeRule
+row k bias blocks {c = c} h l =
+    let e : c / 32 ≡ k = omega arith in
+    ap (λ (x : ℕ). inRow x (rows bias blocks (count c)) (lastRow bias blocks c)) e
 
 -- ---- the loop of codes
 

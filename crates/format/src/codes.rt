@@ -8,9 +8,10 @@ ghost use mathlib.Core.Path.{_≡_};
 ghost use Prim.Native.Nat.{_+_, _-_, _≤_, _<_};
 ghost use Rattle.rules.specs.Rules.{give};
 ghost use Rattle.rules.specs.Format;
-ghost use Rattle.rules.specs.Format.{on, count, openBlock, closeBlock, repeatBlock, blockTurn, endInside, endOutside, endCode, gromBias, operandBias, codeRule, fmtRule};
-ghost use Rattle.machine.specs.Said.{_&_, Does, Image, IsPad, IsVram, Journal, Nothing, Pad, Vram};
-ghost use Rattle.format.specs.Turns.{textCode, highCode, Turns};
+ghost use Rattle.rules.specs.Format.{on, count, openBlock, closeBlock, repeatBlock, blockTurn};
+ghost use Rattle.rules.specs.Format.{endInside, endOutside, endCode, gromBias, operandBias, lastRow, codeRule, fmtRule};
+ghost use Rattle.machine.specs.Meaning.{_&_, Does, Image, IsPad, IsVram, Journal, Nothing, Pad, Vram};
+ghost use Rattle.format.specs.Meaning.{Turns};
 
 const MOST_CODES: u16 = 16384;
 
@@ -188,8 +189,8 @@ fn text_code(
     blocks: u16,
     c: u8,
 ) -> Turn
-    requires { ⌜ IsPad pad × IsVram vram ⌝ }
-    ensures { λ r. ⌜ (r .blocks ≤ blocks + 1) × Turns (textCode bias blocks c) (Image image & Pad pad & Vram vram & Journal journal) m r ⌝ }
+    requires { ⌜ IsPad pad × IsVram vram × (c < 0x80) ⌝ }
+    ensures { λ r. ⌜ (r .blocks ≤ blocks + 1) × Turns (codeRule bias blocks c) (Image image & Pad pad & Vram vram & Journal journal) m r ⌝ }
 {
     let n = count_of(c);
     if c < 0x20 {
@@ -208,8 +209,8 @@ fn text_code(
     go_on(down, bias, blocks)
 }
 
-// A code from >C0 up.
-fn high_code(
+// A code of the last row, from >E0 up.
+fn last_row(
     image: &[u8],
     pad: &mut [u8],
     vram: &mut [u8],
@@ -219,15 +220,11 @@ fn high_code(
     blocks: u16,
     c: u8,
 ) -> Turn
-    requires { ⌜ IsPad pad × IsVram vram × (blocks ≤ 16384) ⌝ }
-    ensures { λ r. ⌜ (r .blocks ≤ blocks + 1) × Turns (highCode bias blocks c) (Image image & Pad pad & Vram vram & Journal journal) m r ⌝ }
+    requires { ⌜ IsPad pad × IsVram vram ⌝ }
+    ensures { λ r. ⌜ (r .blocks ≤ blocks + 1) × Turns (lastRow bias blocks c) (Image image & Pad pad & Vram vram & Journal journal) m r ⌝ }
 {
-    let n = count_of(c);
-    if c < 0xE0 {
-        return open_block(pad, journal, m, n, bias, blocks);
-    }
     if c < 0xFB {
-        let shown = text::operand_text(image, pad, vram, journal, m, n, bias);
+        let shown = text::operand_text(image, pad, vram, journal, m, count_of(c), bias);
         return go_on(shown, bias, blocks);
     }
     if c < 0xFC {
@@ -273,7 +270,10 @@ fn by_code(
         let down = cursor::skip(pad, journal, m, cells);
         return go_on(down, bias, blocks);
     }
-    high_code(image, pad, vram, journal, m, bias, blocks, c)
+    if c < 0xE0 {
+        return open_block(pad, journal, m, n, bias, blocks);
+    }
+    last_row(image, pad, vram, journal, m, bias, blocks, c)
 }
 
 fn code(

@@ -4,7 +4,7 @@ use machine::state::Now;
 ghost use Prim.Native.Nat.{_≤_};
 ghost use Rattle.rules.specs.Format;
 ghost use Rattle.rules.specs.Format.{setCursor, settleCursor, cursorCode};
-ghost use Rattle.machine.specs.Said.{_&_, Does, Image, IsPad, IsVram, Journal, Pad, Vram};
+ghost use Rattle.machine.specs.Meaning.{_&_, Does, Image, IsPad, IsVram, Journal, Pad, Vram};
 
 fn set_cursor(pad: &mut [u8], journal: &mut [u32], m: Now, p: u16) -> Now
     requires { ⌜ IsPad pad ⌝ }

@@ -7,8 +7,8 @@ ghost use mathlib.Core.Path.{_≡_};
 ghost use Prim.Native.Nat.{_≤_, _<_};
 ghost use Rattle.rules.specs.Format;
 ghost use Rattle.rules.specs.Format.{showNext, showTimes, repeatText, isCpu, cpuOperand, showCell, padText, operandText};
-ghost use Rattle.machine.specs.Said.{_&_, Does, Gives, Image, IsPad, IsVram, Journal, Pad, Vram};
-ghost use Rattle.operand.specs.Places.{cellOf};
+ghost use Rattle.machine.specs.Meaning.{_&_, Does, Gives, Image, IsPad, IsVram, Journal, Pad, Vram};
+ghost use Rattle.operand.specs.Meaning.{cellOf};
 
 // ---- from GROM
 

@@ -2,43 +2,45 @@
 use mathlib.Core.Path.{_≡_, refl, _∙_, ap, sym}
 use mathlib.Core.Bool.{Bool, true, false}
 use mathlib.Core.List.{List}
-use Prim.Native.Nat.{ℕ, zero, suc, _+_, _≤_, _<_}
+use Prim.Native.Nat.{ℕ, zero, suc, _+_, _*_, _^_, _≤_, _<_}
 use native.Mathlib.Nat.{mod-eq-of-lt}
 use native.Mathlib.Numerals.{add-one}
 use native.Mathlib.Omega.{arith}
+use lib.Dec.{lit<}
 use lib.ListN.{length, getD, set}
 use borrow.Author.Tests.{lt-ltb, le-ltb, ne-eqb}
-use Rattle.rules.specs.Machine.{Kind, reach, Mem, cells, put, beside, onward}
+use Rattle.rules.specs.Machine.{Kind, cpu, vdp, register, size, reach, Mem, cells, put, onward}
 use Rattle.rules.specs.Answers.{Why, number, outside}
-use Rattle.rules.specs.Journal.{word}
-use Rattle.rules.specs.Rules.{Rule, _>>=_, stopped, perform, exec, after, valued, nextByte, gromByte, here, goto, peek, poke, need}
+use Rattle.rules.specs.Journal.{kindNumber, word, lay}
+use Rattle.rules.specs.Rules.{Rule, _>>=_, got, stopped, perform, exec, after, valued, nextByte, gromByte, here, goto, peek, poke, need}
 use Rattle.rules.proofs.Opcodes.{never-done}
-use Rattle.machine.specs.Said.{outs, Stand, stand, Goes}
+use Rattle.rules.proofs.Undo.{reach-small}
+use Rattle.machine.specs.Meaning.{outs, Stand, stand, Goes, with}
 use Rattle.rules.proofs.Laws.{need-met}
 use Rattle.machine.proofs.Chain.{goes, seq, by-rule, idle}
 
 -- ---- what has refused stays as it is
 
-pub still : {A : Type 0} {i : List ℕ} {s : Stand} {r : Rule A} {v : A} → (s .answer ≡ 0 → ⊥) → Goes i s r v s
+pub still : {A : Type 0} {s : Stand} {r : Rule A} {v : A} → (s .answer ≡ 0 → ⊥) → Goes s r v s
 unfolding outs after valued
 still {s = s} h = record { is = rw (ne-eqb (s .answer) 0 h) }
 
 -- and its pc plays no part
-pub stays : {A : Type 0} {i : List ℕ} {a pc pc₁ : ℕ} {m : Mem} {r : Rule A} {v : A} → (a ≡ 0 → ⊥) → Goes i (stand a pc m) r v (stand a pc₁ m)
+pub stays : {A : Type 0} {a pc pc₁ : ℕ} {m : Mem} {r : Rule A} {v : A} → (a ≡ 0 → ⊥) → Goes (stand a pc m) r v (stand a pc₁ m)
 unfolding outs after valued
 stays {a = a} h = record { is = rw (ne-eqb a 0 h) }
 
 -- ---- pc
 
-pub here-is : {i : List ℕ} {s : Stand} → Goes i s here (s .pc) s
+pub here-is : {s : Stand} → Goes s here (s .pc) s
 unfolding outs after valued exec perform
-here-is {i = i} {s = s} = go (s .answer) (s .pc) (s .mem)
+here-is {s = s} = go (s .answer) (s .pc) (s .mem)
   where
-    go : (a pc : ℕ) (m : Mem) → Goes i (stand a pc m) here pc (stand a pc m)
+    go : (a pc : ℕ) (m : Mem) → Goes (stand a pc m) here pc (stand a pc m)
     go zero pc m = record { is = refl }
     go (suc a) pc m = record { is = rw (ne-eqb (suc a) 0 (λ e. omega arith)) }
 
-pub jumped : {i : List ℕ} {pc a z : ℕ} {m : Mem} → z ≡ 0 → a < 65536 → Goes i (stand z pc m) (goto a) tt (stand 0 a m)
+pub jumped : {pc a z : ℕ} {m : Mem} → z ≡ 0 → a < 65536 → Goes (stand z pc m) (goto a) tt (stand z a m)
 unfolding outs after valued exec perform
 jumped h l = record { is = rw (h, mod-eq-of-lt l) }
 
@@ -49,58 +51,87 @@ refusal : (why : Why) (pc : ℕ) (m : Mem) → outs (number why) pc m ≡ stoppe
 unfolding outs
 refusal why pc m = rw (ne-eqb (number why) 0 (λ e. omega (arith, never-done why)))
 
-pub need-holds : {i : List ℕ} {s : Stand} {c : Bool} (why : Why) → c ≡ true → Goes i s (need c why) tt s
+pub need-holds : {s : Stand} {c : Bool} (why : Why) → c ≡ true → Goes s (need c why) tt s
 need-holds {c = c} why h = by-rule (need-met c why h) idle
 
-pub need-fails : {i : List ℕ} {n pc z : ℕ} {m : Mem} {c : Bool} (why : Why) → z ≡ 0 → number why ≡ n → c ≡ false
-    → Goes i (stand z pc m) (need c why) tt (stand n pc m)
+pub need-fails : {n pc z : ℕ} {m : Mem} {c : Bool} (why : Why) → z ≡ 0 → number why ≡ n → c ≡ false
+    → Goes (stand z pc m) (need c why) tt (stand n pc m)
 unfolding outs after exec need
 need-fails {pc = pc} {m = m} why h e f = goes (ap (λ (x : ℕ). outs x pc m) (sym e) ∙ refusal why pc m ∙ rw (h, f))
 
 -- then nothing more is done, and pc plays no part
-pub refuses : {A : Type 0} {i : List ℕ} {n pc pc₁ z : ℕ} {m : Mem} {c : Bool} {v : A} (why : Why) (r : Rule A) → z ≡ 0 → n ≡ number why → c ≡ false
-    → Goes i (stand z pc m) (need c why >>= (λ _. r)) v (stand n pc₁ m)
+pub refuses : {A : Type 0} {n pc pc₁ z : ℕ} {m : Mem} {c : Bool} {v : A} (why : Why) (r : Rule A) → z ≡ 0 → n ≡ number why → c ≡ false
+    → Goes (stand z pc m) (need c why >>= (λ _. r)) v (stand n pc₁ m)
 refuses {n = n} {pc = pc} why r h e f = seq (need-fails {pc = pc} why h (sym e) f) (stays (λ x. omega (arith, never-done why)))
 
 -- ---- reading the image
 
-module _ {i : List ℕ} {pc z : ℕ} {m : Mem} (h : z ≡ 0) where
-  pub next-beyond : {v : ℕ} → length i ≤ pc → Goes i (stand z pc m) nextByte v (stand 6 pc m)
+module _ {pc z : ℕ} {m : Mem} (h : z ≡ 0) where
+  pub next-beyond : {v : ℕ} → length (m .image) ≤ pc → Goes (stand z pc m) nextByte v (stand 6 pc m)
   unfolding outs after valued exec perform
-  next-beyond l = record { is = rw (h, le-ltb pc (length i) l) }
+  next-beyond l = record { is = rw (h, le-ltb pc (length (m .image)) l) }
 
-  pub next-read : {v p : ℕ} → pc < length i → v ≡ getD i pc 0 → p ≡ onward pc → Goes i (stand z pc m) nextByte v (stand 0 p m)
+  pub next-read : {v p : ℕ} → pc < length (m .image) → v ≡ getD (m .image) pc 0 → p ≡ onward pc → Goes (stand z pc m) nextByte v (stand z p m)
   unfolding outs after valued exec perform
-  next-read l e f = record { is = rw (h, lt-ltb pc (length i) l, e, f) }
+  next-read l e f = record { is = rw (h, lt-ltb pc (length (m .image)) l, e, f) }
 
-  pub grom-beyond : {a v : ℕ} → length i ≤ a → Goes i (stand z pc m) (gromByte a) v (stand 6 pc m)
+  pub grom-beyond : {a v : ℕ} → length (m .image) ≤ a → Goes (stand z pc m) (gromByte a) v (stand 6 pc m)
   unfolding outs after valued exec perform
-  grom-beyond {a = a} l = record { is = rw (h, le-ltb a (length i) l) }
+  grom-beyond {a = a} l = record { is = rw (h, le-ltb a (length (m .image)) l) }
 
-  pub grom-read : {a v : ℕ} → a < length i → v ≡ getD i a 0 → Goes i (stand z pc m) (gromByte a) v (stand 0 pc m)
+  pub grom-read : {a v : ℕ} → a < length (m .image) → v ≡ getD (m .image) a 0 → Goes (stand z pc m) (gromByte a) v (stand z pc m)
   unfolding outs after valued exec perform
-  grom-read {a = a} l e = record { is = rw (h, lt-ltb a (length i) l, e) }
+  grom-read {a = a} l e = record { is = rw (h, lt-ltb a (length (m .image)) l, e) }
 
 -- ---- loads and stores, over the kind
 
-module _ (k : Kind) {i : List ℕ} {a pc z : ℕ} {m : Mem} (h : z ≡ 0) where
-  pub peek-far : {v : ℕ} → reach k ≤ a → Goes i (stand z pc m) (peek k a) v (stand (number (outside k)) pc m)
+cells-with : (k : Kind) (c j : List ℕ) (u : ℕ) (x : Mem) → cells k (with k c j u x) ≡ c
+cells-with cpu c j u x = refl
+cells-with vdp c j u x = refl
+cells-with register c j u x = refl
+
+put-with : (k : Kind) (a b : ℕ) (c j : List ℕ) (u : ℕ) (x : Mem) → put k a b (with k c j u x) ≡ with k (set c a b) j u x
+put-with cpu a b c j u x = refl
+put-with vdp a b c j u x = refl
+put-with register a b c j u x = refl
+
+-- a cell in reach is there, its address is small, and so is its kind
+pub within : (k : Kind) {a q n : ℕ} → q ≡ reach k → n ≡ size k → a < q → a < n
+within cpu e f h = omega arith
+within vdp e f h = omega arith
+within register e f h = omega arith
+
+pub near : (k : Kind) {a q : ℕ} → q ≡ reach k → a < q → a < 16384
+near k e h = omega (arith, reach-small k)
+
+pub kind-small : (k : Kind) → kindNumber k < 4
+kind-small cpu = lit< tt
+kind-small vdp = lit< tt
+kind-small register = lit< tt
+
+-- of any machine, q being how many cells are in reach
+module _ (k : Kind) {a q pc z : ℕ} {m : Mem} (h : z ≡ 0) (r : q ≡ reach k) where
+  pub peek-far : {n v : ℕ} → q ≤ a → n ≡ number (outside k) → Goes (stand z pc m) (peek k a) v (stand n pc m)
   unfolding outs after valued exec perform
-  peek-far {v = v} l = record { is = ap (valued v) (refusal (outside k) pc m) ∙ rw (h, le-ltb a (reach k) l) }
+  peek-far {v = v} l e = record { is = rw e (ap (valued v) (refusal (outside k) pc m) ∙ rw (h, le-ltb a (reach k) (omega arith))) }
 
-  pub peeked : {v : ℕ} → a < reach k → v ≡ getD (cells k m) a 0 → Goes i (stand z pc m) (peek k a) v (stand 0 pc m)
+  pub poke-far : {n b : ℕ} → q ≤ a → n ≡ number (outside k) → Goes (stand z pc m) (poke k a b) tt (stand n pc m)
+  unfolding outs after exec perform
+  poke-far l e = goes (rw e (refusal (outside k) pc m ∙ rw (h, le-ltb a (reach k) (omega arith))))
+
+  pub poke-full : {b : ℕ} → a < q → length (m .journal) ≤ m .used → Goes (stand z pc m) (poke k a b) tt (stand 10 pc m)
+  unfolding outs after exec perform
+  poke-full l f = goes (rw (h, lt-ltb a (reach k) (omega arith), le-ltb (m .used) (length (m .journal)) f))
+
+-- of one that has these cells, and this journal
+module _ (k : Kind) (c : List ℕ) (x : Mem) {a q pc z u : ℕ} {j : List ℕ} (h : z ≡ 0) (r : q ≡ reach k) where
+  pub peeked : {v : ℕ} → a < q → v ≡ getD c a 0 → Goes (stand z pc (with k c j u x)) (peek k a) v (stand z pc (with k c j u x))
   unfolding outs after valued exec perform
-  peeked l e = record { is = rw (h, lt-ltb a (reach k) l, e) }
+  peeked l e = record { is = rw (h, lt-ltb a (reach k) (omega arith), e, cells-with k c j u x) }
 
-  pub poke-far : {b : ℕ} → reach k ≤ a → Goes i (stand z pc m) (poke k a b) tt (stand (number (outside k)) pc m)
-  unfolding outs after exec perform
-  poke-far l = goes (refusal (outside k) pc m ∙ rw (h, le-ltb a (reach k) l))
-
-  pub poke-full : {b : ℕ} → a < reach k → length (m .journal) ≤ m .used → Goes i (stand z pc m) (poke k a b) tt (stand 10 pc m)
-  unfolding outs after exec perform
-  poke-full l f = goes (rw (h, lt-ltb a (reach k) l, le-ltb (m .used) (length (m .journal)) f))
-
-  pub poked : {b w : ℕ} → a < reach k → m .used < length (m .journal) → b < 256 → w ≡ word k a (getD (cells k m) a 0)
-      → Goes i (stand z pc m) (poke k a b) tt (stand 0 pc (beside (set (m .journal) (m .used) w) (m .used + 1) (put k a b m)))
-  unfolding outs after exec perform
-  poked l f g e = goes (rw (h, lt-ltb a (reach k) l, lt-ltb (m .used) (length (m .journal)) f, mod-eq-of-lt g, e, add-one (m .used)))
+  pub poked : {b n w : ℕ} → a < q → u < length j → b < 256 → n ≡ kindNumber k → w ≡ n * 2 ^ 30 + a * 256 + getD c a 0
+      → Goes (stand z pc (with k c j u x)) (poke k a b) tt (stand z pc (with k (set c a b) (set j u w) (u + 1) x))
+  unfolding outs after exec perform word
+  poked {b = b} l f g d e =
+      goes (rw (h, lt-ltb a (reach k) (omega arith), lt-ltb u (length j) f, mod-eq-of-lt g, e, d, add-one u, cells-with k c j u x)
+      (ap (λ (y : Mem). got tt pc (lay (kindNumber k * 2 ^ 30 + a * 256 + getD c a 0) y)) (sym (put-with k a b c j u x))))

@@ -1,13 +1,12 @@
 -- One call after the other: the laws by which a function that calls others in a row follows the rule that lists them in a row.
 use mathlib.Core.Path.{_≡_, refl, _∙_, ap, sym}
 use mathlib.Core.Bool.{Bool, true}
-use mathlib.Core.List.{List}
 use Prim.Native.Nat.{ℕ, _%_}
 use Rattle.rules.specs.Machine.{Kind}
 use Rattle.rules.specs.Answers.{Why}
-use Rattle.rules.specs.Rules.{Rule, give, _>>=_, Out, got, stopped, after, valued, poke, need}
+use Rattle.rules.specs.Rules.{Rule, Deed, give, _>>=_, Out, got, stopped, after, valued, poke, need}
 use Rattle.rules.proofs.Laws as laws
-use Rattle.machine.specs.Said.{outOf, Stand, Goes, Owes}
+use Rattle.machine.specs.Meaning.{outOf, Stand, Goes, Owes}
 
 valued-unit : (o : Out (Unit {0})) → valued tt o ≡ o
 unfolding valued
@@ -15,87 +14,87 @@ valued-unit (got a pc m) = refl
 valued-unit (stopped n m) = refl
 
 -- what a rule that gives no value leaves
-pub done : {i : List ℕ} {s t : Stand} {r : Rule (Unit {0})} → Goes i s r tt t → outOf t ≡ after i (outOf s) r
+pub done : {s t : Stand} {r : Deed} → Goes s r tt t → outOf t ≡ after (outOf s) r
 done {t = t} g = sym (valued-unit (outOf t)) ∙ g .is
 
-pub goes : {i : List ℕ} {s t : Stand} {r : Rule (Unit {0})} → outOf t ≡ after i (outOf s) r → Goes i s r tt t
+pub goes : {s t : Stand} {r : Deed} → outOf t ≡ after (outOf s) r → Goes s r tt t
 goes {t = t} e = record { is = valued-unit (outOf t) ∙ e }
 
-module _ {i : List ℕ} {s t u : Stand} where
+module _ {s t u : Stand} where
   -- a call whose value is used
-  pub bind : {A B : Type 0} {r : Rule A} {a : A} {b : B} (f : A → Rule B) → Goes i s r a t → Goes i t (f a) b u → Goes i s (r >>= f) b u
-  bind {r = r} {a = a} {b = b} f g h = record { is = laws.bind i (outOf s) a (outOf t) (valued b (outOf u)) r f (g .is) (h .is) }
+  pub bind : {A B : Type 0} {r : Rule A} {a : A} {b : B} (f : A → Rule B) → Goes s r a t → Goes t (f a) b u → Goes s (r >>= f) b u
+  bind {r = r} {a = a} {b = b} f g h = record { is = laws.bind (outOf s) a (outOf t) (valued b (outOf u)) r f (g .is) (h .is) }
 
   -- a call, then a call
-  pub seq : {A B : Type 0} {r : Rule A} {q : Rule B} {a : A} {b : B} → Goes i s r a t → Goes i t q b u → Goes i s (r >>= (λ _. q)) b u
+  pub seq : {A B : Type 0} {r : Rule A} {q : Rule B} {a : A} {b : B} → Goes s r a t → Goes t q b u → Goes s (r >>= (λ _. q)) b u
   seq {q = q} g h = bind (λ _. q) g h
 
 -- a value that is only made, and nothing at all
-pub gives : {A : Type 0} {i : List ℕ} {s : Stand} {a b : A} → a ≡ b → Goes i s (give b) a s
-gives {i = i} {s = s} {a = a} {b = b} e = record { is = laws.gives i (outOf s) a b e }
+pub gives : {A : Type 0} {s : Stand} {a b : A} → a ≡ b → Goes s (give b) a s
+gives {s = s} {a = a} {b = b} e = record { is = laws.gives (outOf s) a b e }
 
-module _ {i : List ℕ} {s t : Stand} {A : Type 0} where
+module _ {s t : Stand} {A : Type 0} where
   -- the same rule in other words: of an equal value
-  pub via : {B : Type 0} {a : A} {x y : B} (f : B → Rule A) → x ≡ y → Goes i s (f x) a t → Goes i s (f y) a t
-  via {a = a} {x = x} {y = y} f e g = record { is = laws.via i (outOf s) (valued a (outOf t)) f x y e (g .is) }
+  pub via : {B : Type 0} {a : A} {x y : B} (f : B → Rule A) → x ≡ y → Goes s (f x) a t → Goes s (f y) a t
+  via {a = a} {x = x} {y = y} f e g = record { is = laws.via (outOf s) (valued a (outOf t)) f x y e (g .is) }
 
   -- of two
-  pub via₂ : {B C : Type 0} {a : A} {x y : B} {z w : C} (f : B → C → Rule A) → x ≡ y → z ≡ w → Goes i s (f x z) a t → Goes i s (f y w) a t
-  via₂ {a = a} {x = x} {y = y} {z = z} {w = w} f e k g = record { is = laws.via₂ i (outOf s) (valued a (outOf t)) f x y z w e k (g .is) }
+  pub via₂ : {B C : Type 0} {a : A} {x y : B} {z w : C} (f : B → C → Rule A) → x ≡ y → z ≡ w → Goes s (f x z) a t → Goes s (f y w) a t
+  via₂ {a = a} {x = x} {y = y} {z = z} {w = w} f e k g = record { is = laws.via₂ (outOf s) (valued a (outOf t)) f x y z w e k (g .is) }
 
   -- an equal rule
-  pub by-rule : {a : A} {r q : Rule A} → q ≡ r → Goes i s r a t → Goes i s q a t
-  by-rule {a = a} {r = r} {q = q} e g = record { is = laws.by-rule i (outOf s) (valued a (outOf t)) r q e (g .is) }
+  pub by-rule : {a : A} {r q : Rule A} → q ≡ r → Goes s r a t → Goes s q a t
+  by-rule {a = a} {r = r} {q = q} e g = record { is = laws.by-rule (outOf s) (valued a (outOf t)) r q e (g .is) }
 
-pub idle : {i : List ℕ} {s : Stand} → Goes i s (give (tt {0})) (tt {0}) s
+pub idle : {s : Stand} → Goes s (give (tt {0})) (tt {0}) s
 idle = gives refl
 
 -- a value that was read, given once more
-pub regives : {A : Type 0} {i : List ℕ} {s t u : Stand} {r : Rule A} {a b : A} → Goes i s r a t → b ≡ a → Goes i t (give b) b u → Goes i s r b u
-regives {i = i} {s = s} {t = t} {u = u} {r = r} {a = a} {b = b} g e h = record { is = laws.regives i (outOf s) a b (outOf t) (outOf u) r (g .is) e (h .is) }
+pub regives : {A : Type 0} {s t u : Stand} {r : Rule A} {a b : A} → Goes s r a t → b ≡ a → Goes t (give b) b u → Goes s r b u
+regives {s = s} {t = t} {u = u} {r = r} {a = a} {b = b} g e h = record { is = laws.regives (outOf s) a b (outOf t) (outOf u) r (g .is) e (h .is) }
 
 -- a value that was read, handed on
-pub hands : {A : Type 0} {i : List ℕ} {s t u : Stand} {r : Rule A} {a b : A} → Goes i s r a t → Goes i t (give a) b u → Goes i s r b u
-hands {i = i} {t = t} {a = a} g h = record { is = h .is ∙ sym (laws.gives i (outOf t) a a refl) ∙ g .is }
+pub hands : {A : Type 0} {s t u : Stand} {r : Rule A} {a b : A} → Goes s r a t → Goes t (give a) b u → Goes s r b u
+hands {t = t} {a = a} g h = record { is = h .is ∙ sym (laws.gives (outOf t) a a refl) ∙ g .is }
 
 -- a store keeps a byte of what it is given
-pub kept-byte : {i : List ℕ} {s t : Stand} {k : Kind} {a b c : ℕ} → c ≡ b % 256 → Goes i s (poke k a c) tt t → Goes i s (poke k a b) tt t
-kept-byte {i = i} {s = s} {k = k} {a = a} {b = b} {c = c} e g = record { is = g .is ∙ laws.kept-byte i (outOf s) k a b c e }
+pub kept-byte : {s t : Stand} {k : Kind} {a b c : ℕ} → c ≡ b % 256 → Goes s (poke k a c) tt t → Goes s (poke k a b) tt t
+kept-byte {s = s} {k = k} {a = a} {b = b} {c = c} e g = record { is = g .is ∙ laws.kept-byte (outOf s) k a b c e }
 
 -- a need, and the rest, which may have any number that is the rule's where the test holds
-pub needed : {A : Type 0} {i : List ℕ} {s t u : Stand} {c : Bool} {a b : ℕ} {v : A} (why : Why) (f : ℕ → Rule A)
-    → Goes i s (need c why) tt t → (c ≡ true → a ≡ b) → Goes i t (f a) v u → Goes i s (need c why >>= (λ _. f b)) v u
-needed {i = i} {s = s} {t = t} {u = u} {c = c} {a = a} {b = b} {v = v} why f g h k =
-    record { is = laws.needed i (outOf s) (outOf t) (valued v (outOf u)) c why f a b (done g) h (k .is) }
+pub needed : {A : Type 0} {s t u : Stand} {c : Bool} {a b : ℕ} {v : A} (why : Why) (f : ℕ → Rule A)
+    → Goes s (need c why) tt t → (c ≡ true → a ≡ b) → Goes t (f a) v u → Goes s (need c why >>= (λ _. f b)) v u
+needed {s = s} {t = t} {u = u} {c = c} {a = a} {b = b} {v = v} why f g h k =
+    record { is = laws.needed (outOf s) (outOf t) (valued v (outOf u)) c why f a b (done g) h (k .is) }
 
 -- ---- what is left to do
 
 -- nothing done yet: the whole, in other words
-pub whole : {A : Type 0} {i : List ℕ} {s : Stand} {r q : Rule A} → q ≡ r → Owes i s r s q
-whole {i = i} {s = s} e = record { is = ap (λ (x : Rule _). after i (outOf s) x) e }
+pub whole : {A : Type 0} {s : Stand} {r q : Rule A} → q ≡ r → Owes s r s q
+whole {s = s} e = record { is = ap (λ (x : Rule _). after (outOf s) x) e }
 
 -- a call whose value is used: the rest, of that value
-pub leaves : {A B : Type 0} {i : List ℕ} {s t : Stand} {r : Rule A} {a : A} (f : A → Rule B) → Goes i s r a t → Owes i s (r >>= f) t (f a)
-leaves {i = i} {s = s} {t = t} {r = r} {a = a} f g = record { is = laws.bind i (outOf s) a (outOf t) (after i (outOf t) (f a)) r f (g .is) refl }
+pub leaves : {A B : Type 0} {s t : Stand} {r : Rule A} {a : A} (f : A → Rule B) → Goes s r a t → Owes s (r >>= f) t (f a)
+leaves {s = s} {t = t} {r = r} {a = a} f g = record { is = laws.bind (outOf s) a (outOf t) (after (outOf t) (f a)) r f (g .is) refl }
 
-module _ {A : Type 0} {i : List ℕ} {s t : Stand} {r q : Rule A} where
+module _ {A : Type 0} {s t : Stand} {r q : Rule A} where
   -- less of it
-  pub further : {p : Rule A} {u : Stand} → Owes i s r t q → Owes i t q u p → Owes i s r u p
+  pub further : {p : Rule A} {u : Stand} → Owes s r t q → Owes t q u p → Owes s r u p
   further o l = record { is = l .is ∙ o .is }
 
   -- the last of it
-  pub ends : {a : A} {u : Stand} → Owes i s r t q → Goes i t q a u → Goes i s r a u
+  pub ends : {a : A} {u : Stand} → Owes s r t q → Goes t q a u → Goes s r a u
   ends o g = record { is = g .is ∙ o .is }
 
-module _ {A B : Type 0} {i : List ℕ} {s t u : Stand} {r q : Rule A} {p : Rule B} {b : B} where
+module _ {A B : Type 0} {s t u : Stand} {r q : Rule A} {p : Rule B} {b : B} where
   -- a turn of a loop, of whose value the rest is
-  pub turns-with : (f : B → Rule A) → Owes i s r t q → q ≡ (p >>= f) → Goes i t p b u → Owes i s r u (f b)
+  pub turns-with : (f : B → Rule A) → Owes s r t q → q ≡ (p >>= f) → Goes t p b u → Owes s r u (f b)
   turns-with f o e g = further o (further (whole (sym e)) (leaves f g))
 
   -- a turn of any other
-  pub turns : {q₁ : Rule A} → Owes i s r t q → q ≡ (p >>= (λ _. q₁)) → Goes i t p b u → Owes i s r u q₁
+  pub turns : {q₁ : Rule A} → Owes s r t q → q ≡ (p >>= (λ _. q₁)) → Goes t p b u → Owes s r u q₁
   turns {q₁ = q₁} o e g = turns-with (λ _. q₁) o e g
 
 -- nothing left
-pub over : {i : List ℕ} {s t : Stand} {r q : Rule (Unit {0})} → Owes i s r t q → q ≡ give tt → Goes i s r tt t
+pub over : {s t : Stand} {r q : Deed} → Owes s r t q → q ≡ give tt → Goes s r tt t
 over o e = ends o (by-rule e idle)

@@ -3,7 +3,7 @@ use crate::answers;
 use crate::state;
 use crate::state::Now;
 ghost use Rattle.rules.specs.Rules.{nextByte, nextWord, gromByte};
-ghost use Rattle.machine.specs.Said.{Gives, Image};
+ghost use Rattle.machine.specs.Meaning.{Gives, Image};
 
 pub fn next_byte(image: &[u8], m: Now) -> Now
     ensures { λ r. ⌜ Gives (r .byte) nextByte (Image image) m r ⌝ }
@@ -14,21 +14,9 @@ pub fn next_byte(image: &[u8], m: Now) -> Now
         return m;
     }
     if image.len() <= at {
-        return Now {
-            pc,
-            used: m.used,
-            answer: answers::OFF_GROM,
-            byte: 0,
-            word: 0,
-        };
+        return state::refused(m, answers::OFF_GROM);
     }
-    Now {
-        pc: number::addresses::onward(pc),
-        used: m.used,
-        answer: 0,
-        byte: image[at],
-        word: 0,
-    }
+    state::read(m, number::addresses::onward(pc), image[at])
 }
 
 pub fn grom_byte(image: &[u8], m: Now, a: u16) -> Now
@@ -39,21 +27,9 @@ pub fn grom_byte(image: &[u8], m: Now, a: u16) -> Now
         return m;
     }
     if image.len() <= at {
-        return Now {
-            pc: m.pc,
-            used: m.used,
-            answer: answers::OFF_GROM,
-            byte: 0,
-            word: 0,
-        };
+        return state::refused(m, answers::OFF_GROM);
     }
-    Now {
-        pc: m.pc,
-        used: m.used,
-        answer: 0,
-        byte: image[at],
-        word: 0,
-    }
+    state::read(m, m.pc, image[at])
 }
 
 pub fn next_word(image: &[u8], m: Now) -> Now

@@ -1,76 +1,58 @@
 // The journal: a mark taken, words put back from the top, and the newest mark found.
+use crate::answers;
+use crate::cells;
+use crate::state;
 use crate::state::Now;
 ghost use mathlib.Core.Path.{_≡_};
-ghost use mathlib.Core.List.{List};
 ghost use Prim.Native.Nat.{ℕ, _≤_};
-ghost use lib.Dec.{ltb};
-ghost use lib.ListN.{length, set};
-ghost use Rattle.rules.specs.Machine.{mem, pick};
-ghost use Rattle.rules.specs.Journal;
+ghost use lib.ListN.{length};
+ghost use Rattle.rules.specs.Journal as words;
 ghost use Rattle.rules.specs.Journal.{note, restore, undoTop};
-ghost use Rattle.rules.specs.Rules.{then};
-ghost use Rattle.rules.specs.Calls.{takeMark, scan};
-ghost use Rattle.machine.specs.Said;
-ghost use Rattle.machine.specs.Said.{IsPad, IsRegs, IsVram, found, out};
+ghost use Rattle.machine.specs.Meaning.{_&_, Pad, Vram, Regs, Journal, Marks, Puts, Became, Finds};
 
 // The mark word of a step that began at `pc`.
 pub fn take_mark(journal: &mut [u32], m: Now, pc: u16) -> Now
-    ensures { λ r. ⌜ ((p v g : List ℕ) → out p v g (now (journal .exit)) r ≡ then (out p v g (now (journal .entry)) m) (λ _ pc₁ m₁. takeMark pc pc₁ m₁)) ⌝ }
+    ensures { λ r. ⌜ Marks pc (Journal journal) m r ⌝ }
 {
     let used = m.used;
     if m.answer != 0 {
         return m;
     }
     if journal.len() <= used {
-        return Now {
-            pc: m.pc,
-            used,
-            answer: 10,
-            byte: 0,
-            word: 0,
-        };
+        return state::refused(m, answers::NO_ROOM);
     }
     journal[used] = number::words::mark_of(pc);
-    let next = used + 1;
-    Now {
-        pc: m.pc,
-        used: next,
-        answer: 0,
-        byte: 0,
-        word: 0,
-    }
+    state::laid(m)
 }
 
-// A byte into a cell, if it is in reach.
-fn put(cells: &mut [u8], reach: usize, at: usize, b: u8)
-    requires { ⌜ reach ≤ length (now cells) ⌝ }
-    ensures { λ _. ⌜ now (cells .exit) ≡ pick (ltb at reach) (set (now (cells .entry)) at b) (now (cells .entry)) ⌝ }
+// A byte into a cell, if there is one.
+fn put(memory: &mut [u8], at: usize, b: u8)
+    ensures { λ _. ⌜ Puts at b memory ⌝ }
 {
-    if at < reach {
-        cells[at] = b;
+    if at < memory.len() {
+        memory[at] = b;
         return;
     }
 }
 
 // What a word says, put back into its cell.
 fn put_back(pad: &mut [u8], vram: &mut [u8], regs: &mut [u8], w: u32)
-    requires { ⌜ IsPad pad × IsVram vram × IsRegs regs ⌝ }
-    ensures { λ _. ⌜ ((j : List ℕ) (u : ℕ) → mem (now (pad .exit)) (now (vram .exit)) (now (regs .exit)) j u ≡ restore (note w) (mem (now (pad .entry)) (now (vram .entry)) (now (regs .entry)) j u)) ⌝ }
+    ensures { λ _. ⌜ ((u : ℕ) → Became (restore (note w)) (Pad pad & Vram vram & Regs regs) u u) ⌝ }
 {
     let kind = number::words::kind_of(w);
     let cell = number::words::cell_of(w);
     let at = cell as usize;
     let b = number::words::byte_of(w);
     if kind == 0 {
-        put(pad, 0xE0, at, b);
+        put(pad, at, b);
         return;
     }
     if kind == 1 {
-        put(vram, 16384, at, b);
+        put(vram, at, b);
         return;
     }
     if kind == 2 {
-        put(regs, 8, at, b);
+        put(regs, at, b);
         return;
     }
 }
@@ -83,8 +65,8 @@ fn undo_top(
     journal: &mut [u32],
     used: usize,
 ) -> usize
-    requires { ⌜ IsPad pad × IsVram vram × IsRegs regs × (used ≤ length (now journal)) ⌝ }
-    ensures { λ r. ⌜ mem (now (pad .exit)) (now (vram .exit)) (now (regs .exit)) (now (journal .exit)) r ≡ undoTop used (mem (now (pad .entry)) (now (vram .entry)) (now (regs .entry)) (now (journal .entry)) used) ⌝ }
+    requires { ⌜ used ≤ length (now journal) ⌝ }
+    ensures { λ r. ⌜ Became (undoTop used) (Pad pad & Vram vram & Regs regs & Journal journal) used r ⌝ }
 {
     if used == 0 {
         return 0;
@@ -105,8 +87,8 @@ pub fn undo(
     used: usize,
     n: usize,
 ) -> usize
-    requires { ⌜ IsPad pad × IsVram vram × IsRegs regs × (used ≤ length (now journal)) ⌝ }
-    ensures { λ r. ⌜ mem (now (pad .exit)) (now (vram .exit)) (now (regs .exit)) (now (journal .exit)) r ≡ Journal.undo n (mem (now (pad .entry)) (now (vram .entry)) (now (regs .entry)) (now (journal .entry)) used) ⌝ }
+    requires { ⌜ used ≤ length (now journal) ⌝ }
+    ensures { λ r. ⌜ Became (words.undo n) (Pad pad & Vram vram & Regs regs & Journal journal) used r ⌝ }
 {
     let mut u = used;
     let mut done: usize = 0;
@@ -117,34 +99,23 @@ pub fn undo(
     u
 }
 
-// A sound mark.
-fn marks(w: u32) -> bool
-    ensures { λ r. ⌜ r ≡ Said.marks (note w) ⌝ }
+// A mark without a surplus bit, or a store's word whose address names a cell.
+fn sound(w: u32) -> bool
+    ensures { λ r. ⌜ r ≡ words.sound (note w) ⌝ }
 {
     let kind = number::words::kind_of(w);
-    let low = number::words::under_kind(w);
-    if kind != 3 {
-        return false;
-    }
-    low < 65536
-}
-
-// A word of a store whose address names a cell.
-fn names_cell(w: u32) -> bool
-    ensures { λ r. ⌜ r ≡ Said.namesCell (note w) ⌝ }
-{
-    let kind = number::words::kind_of(w);
-    let at = number::words::cell_of(w);
+    let cell = number::words::cell_of(w);
+    let at = cell as usize;
     if kind == 0 {
-        return at < 0xE0;
+        return at < cells::PAD_REACH;
     }
     if kind == 1 {
-        return at < 16384;
+        return at < cells::VDP_REACH;
     }
     if kind == 2 {
-        return at < 8;
+        return at < cells::REGISTERS;
     }
-    false
+    number::words::under_kind(w) < 65536
 }
 
 // The newest mark: how many words it and those above it are, 0 where there is no sound record, and its address.
@@ -155,19 +126,21 @@ pub struct Mark {
 
 pub fn find(journal: &[u32], used: usize) -> Mark
     requires { ⌜ used ≤ length (now journal) ⌝ }
-    ensures { λ r. ⌜ found r ≡ scan used (now (journal .entry)) ⌝ }
+    ensures { λ r. ⌜ Finds journal used r ⌝ }
 {
     let mut u = used;
     while u != 0 {
         let top = u - 1;
         let w = journal[top];
-        if marks(w) {
+        let fine = sound(w);
+        if !fine {
+            return Mark { words: 0, pc: 0 };
+        }
+        let kind = number::words::kind_of(w);
+        if kind == 3 {
             let words = used - top;
             let pc = (w % 65536) as u16;
             return Mark { words, pc };
-        }
-        if !names_cell(w) {
-            return Mark { words: 0, pc: 0 };
         }
         u = top;
     }

@@ -4,6 +4,7 @@ pub mod answers;
 pub mod cells;
 pub mod grom;
 pub mod journal;
+pub mod memory;
 pub mod pad;
 pub mod registers;
 pub mod state;

@@ -1,37 +1,19 @@
-// The pad: loads and journalled stores, of a byte and of a word. A store tests its range before its room.
-use crate::answers;
-use crate::cells;
+// The pad: loads and journalled stores, of a byte and of a word.
+use crate::memory;
+use crate::memory::Memory;
 use crate::state;
 use crate::state::Now;
 ghost use Prim.Native.Nat.{_<_, _^_};
 ghost use Rattle.rules.specs.Machine.{cpu};
 ghost use Rattle.rules.specs.Rules.{peek, peekWord, poke};
 ghost use Rattle.rules.specs.Operands.{pokeWord};
-ghost use Rattle.machine.specs.Said.{_&_, Does, Gives, IsPad, Journal, Pad};
+ghost use Rattle.machine.specs.Meaning.{_&_, Does, Gives, IsPad, Journal, Pad};
 
 pub fn peek_pad(pad: &[u8], m: Now, at: usize) -> Now
     requires { ⌜ IsPad pad ⌝ }
     ensures { λ r. ⌜ Gives (r .byte) (peek cpu at) (Pad pad) m r ⌝ }
 {
-    if m.answer != 0 {
-        return m;
-    }
-    if cells::PAD_REACH <= at {
-        return Now {
-            pc: m.pc,
-            used: m.used,
-            answer: answers::OFF_CPU,
-            byte: 0,
-            word: 0,
-        };
-    }
-    Now {
-        pc: m.pc,
-        used: m.used,
-        answer: 0,
-        byte: pad[at],
-        word: 0,
-    }
+    memory::load(pad, m, Memory::Cpu, at)
 }
 
 pub fn peek_pad_word(pad: &[u8], m: Now, at: usize) -> Now
@@ -48,40 +30,7 @@ pub fn poke_pad(pad: &mut [u8], journal: &mut [u32], m: Now, at: usize, b: u8) -
     requires { ⌜ IsPad pad ⌝ }
     ensures { λ r. ⌜ Does (poke cpu at b) (Pad pad & Journal journal) m r ⌝ }
 {
-    let used = m.used;
-    if m.answer != 0 {
-        return m;
-    }
-    if cells::PAD_REACH <= at {
-        return Now {
-            pc: m.pc,
-            used,
-            answer: answers::OFF_CPU,
-            byte: 0,
-            word: 0,
-        };
-    }
-    if journal.len() <= used {
-        return Now {
-            pc: m.pc,
-            used,
-            answer: answers::NO_ROOM,
-            byte: 0,
-            word: 0,
-        };
-    }
-    let old = pad[at];
-    let a = at as u32;
-    journal[used] = number::words::pack(0, a, old);
-    pad[at] = b;
-    let next = used + 1;
-    Now {
-        pc: m.pc,
-        used: next,
-        answer: 0,
-        byte: 0,
-        word: 0,
-    }
+    memory::store(pad, journal, m, Memory::Cpu, at, b)
 }
 
 // High byte first, each byte a store of its own.

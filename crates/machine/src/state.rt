@@ -1,9 +1,10 @@
-// The state, a value given, a jump and a need.
+// The state, and the few functions that make one; a value given, a jump and a need.
 ghost use mathlib.Core.Path.{_≡_};
+ghost use Prim.Native.Nat.{_+_, _<_, _^_};
 ghost use Rattle.rules.specs.Answers.{Why, number};
 ghost use Rattle.rules.specs.Rules;
 ghost use Rattle.rules.specs.Rules.{give, goto};
-ghost use Rattle.machine.specs.Said.{Does, Gives, Nothing};
+ghost use Rattle.machine.specs.Meaning.{Does, Gives, Nothing, began, refusedBy, readBy, laidBy};
 
 // pc, the used words, the answer so far, and the byte or the word that was read last.
 pub struct Now {
@@ -14,16 +15,63 @@ pub struct Now {
     pub word: u16,
 }
 
-pub fn give_byte(m: Now, b: u8) -> Now
-    ensures { λ r. ⌜ Gives (r .byte) (give b) Nothing m r ⌝ }
+// The state in which a step begins.
+pub fn begin(pc: u16, used: usize) -> Now
+    ensures { λ r. ⌜ r ≡ began pc used ⌝ }
+{
+    Now {
+        pc,
+        used,
+        answer: 0,
+        byte: 0,
+        word: 0,
+    }
+}
+
+pub fn refused(m: Now, why: u8) -> Now
+    ensures { λ r. ⌜ r ≡ refusedBy why m ⌝ }
 {
     Now {
         pc: m.pc,
+        used: m.used,
+        answer: why,
+        byte: 0,
+        word: 0,
+    }
+}
+
+// A byte read, and where pc is then.
+pub fn read(m: Now, pc: u16, b: u8) -> Now
+    ensures { λ r. ⌜ r ≡ readBy pc b m ⌝ }
+{
+    Now {
+        pc,
         used: m.used,
         answer: m.answer,
         byte: b,
         word: 0,
     }
+}
+
+// One journal word more is used.
+pub fn laid(m: Now) -> Now
+    requires { ⌜ m .used < 2 ^ 63 ⌝ }
+    ensures { λ r. ⌜ r ≡ laidBy m ⌝ }
+{
+    let next = m.used + 1;
+    Now {
+        pc: m.pc,
+        used: next,
+        answer: m.answer,
+        byte: 0,
+        word: 0,
+    }
+}
+
+pub fn give_byte(m: Now, b: u8) -> Now
+    ensures { λ r. ⌜ Gives (r .byte) (give b) Nothing m r ⌝ }
+{
+    read(m, m.pc, b)
 }
 
 // Also of a machine that has refused the word is known: a caller may rely on its bound.
@@ -45,13 +93,7 @@ pub fn jump(m: Now, a: u16) -> Now
     if m.answer != 0 {
         return m;
     }
-    Now {
-        pc: a,
-        used: m.used,
-        answer: 0,
-        byte: 0,
-        word: 0,
-    }
+    read(m, a, 0)
 }
 
 // The refusal `why`, unless a test holds.
@@ -64,11 +106,5 @@ pub fn need(m: Now, holds: bool, why: u8) -> Now
     if holds {
         return m;
     }
-    Now {
-        pc: m.pc,
-        used: m.used,
-        answer: why,
-        byte: 0,
-        word: 0,
-    }
+    refused(m, why)
 }

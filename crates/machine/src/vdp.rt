@@ -1,77 +1,26 @@
-// VDP RAM: loads and journalled stores, of a byte and of a word. A store tests its range before its room.
-use crate::answers;
-use crate::cells;
+// VDP RAM: loads and journalled stores, of a byte and of a word.
+use crate::memory;
+use crate::memory::Memory;
 use crate::state;
 use crate::state::Now;
 ghost use Prim.Native.Nat.{_<_, _^_};
 ghost use Rattle.rules.specs.Machine.{vdp};
 ghost use Rattle.rules.specs.Rules.{peek, peekWord, poke};
 ghost use Rattle.rules.specs.Operands.{pokeWord};
-ghost use Rattle.machine.specs.Said.{_&_, Does, Gives, IsVram, Journal, Vram};
+ghost use Rattle.machine.specs.Meaning.{_&_, Does, Gives, IsVram, Journal, Vram};
 
 pub fn peek_vdp(vram: &[u8], m: Now, at: usize) -> Now
     requires { ⌜ IsVram vram ⌝ }
     ensures { λ r. ⌜ Gives (r .byte) (peek vdp at) (Vram vram) m r ⌝ }
 {
-    if m.answer != 0 {
-        return m;
-    }
-    if cells::VDP_REACH <= at {
-        return Now {
-            pc: m.pc,
-            used: m.used,
-            answer: answers::OFF_VDP,
-            byte: 0,
-            word: 0,
-        };
-    }
-    Now {
-        pc: m.pc,
-        used: m.used,
-        answer: 0,
-        byte: vram[at],
-        word: 0,
-    }
+    memory::load(vram, m, Memory::Vdp, at)
 }
 
 pub fn poke_vdp(vram: &mut [u8], journal: &mut [u32], m: Now, at: usize, b: u8) -> Now
     requires { ⌜ IsVram vram ⌝ }
     ensures { λ r. ⌜ Does (poke vdp at b) (Vram vram & Journal journal) m r ⌝ }
 {
-    let used = m.used;
-    if m.answer != 0 {
-        return m;
-    }
-    if cells::VDP_REACH <= at {
-        return Now {
-            pc: m.pc,
-            used,
-            answer: answers::OFF_VDP,
-            byte: 0,
-            word: 0,
-        };
-    }
-    if journal.len() <= used {
-        return Now {
-            pc: m.pc,
-            used,
-            answer: answers::NO_ROOM,
-            byte: 0,
-            word: 0,
-        };
-    }
-    let old = vram[at];
-    let a = at as u32;
-    journal[used] = number::words::pack(1, a, old);
-    vram[at] = b;
-    let next = used + 1;
-    Now {
-        pc: m.pc,
-        used: next,
-        answer: 0,
-        byte: 0,
-        word: 0,
-    }
+    memory::store(vram, journal, m, Memory::Vdp, at, b)
 }
 
 pub fn peek_vdp_word(vram: &[u8], m: Now, at: usize) -> Now

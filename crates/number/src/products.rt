@@ -3,6 +3,7 @@ use crate::sums::half;
 ghost use mathlib.Core.Path.{_≡_};
 ghost use Prim.Native.Nat.{_+_, _*_, _/_, _%_, _<_};
 ghost use Rattle.rules.specs.Arithmetic;
+ghost use Rattle.rules.specs.Arithmetic.{span};
 
 // A number of two widths, or a quotient and its rest.
 pub struct Halves {
@@ -12,8 +13,8 @@ pub struct Halves {
 
 // The product, of two widths.
 pub fn times(wide: bool, a: u16, b: u16) -> Halves
-    requires { ⌜ (a < Arithmetic.span (Arithmetic.half wide)) × (b < Arithmetic.span (Arithmetic.half wide)) ⌝ }
-    ensures { λ r. ⌜ (r .high ≡ a * b / Arithmetic.span (Arithmetic.half wide)) × (r .low ≡ a * b % Arithmetic.span (Arithmetic.half wide)) ⌝ }
+    requires { ⌜ (a < span (Arithmetic.half wide)) × (b < span (Arithmetic.half wide)) ⌝ }
+    ensures { λ r. ⌜ (r .high ≡ a * b / span (Arithmetic.half wide)) × (r .low ≡ a * b % span (Arithmetic.half wide)) ⌝ }
 {
     let all = half(wide) * 2;
     let p = a as u32 * b as u32;
@@ -24,8 +25,8 @@ pub fn times(wide: bool, a: u16, b: u16) -> Halves
 
 // A number of two widths by another of one: the quotient, and the rest.
 pub fn divide(wide: bool, upper: u16, lower: u16, b: u16) -> Halves
-    requires { ⌜ (upper < b) × (b < Arithmetic.span (Arithmetic.half wide)) × (lower < Arithmetic.span (Arithmetic.half wide)) ⌝ }
-    ensures { λ r. ⌜ (r .high ≡ (upper * Arithmetic.span (Arithmetic.half wide) + lower) / b) × (r .low ≡ (upper * Arithmetic.span (Arithmetic.half wide) + lower) % b) ⌝ }
+    requires { ⌜ (upper < b) × (b < span (Arithmetic.half wide)) × (lower < span (Arithmetic.half wide)) ⌝ }
+    ensures { λ r. ⌜ (r .high ≡ (upper * span (Arithmetic.half wide) + lower) / b) × (r .low ≡ (upper * span (Arithmetic.half wide) + lower) % b) ⌝ }
 {
     let all = half(wide) * 2;
     let top = upper as u32 * all;

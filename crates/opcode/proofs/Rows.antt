@@ -7,7 +7,7 @@ use native.Mathlib.Omega.{arith}
 use lib.ListN.{length}
 use Rattle.rules.specs.Answers.{noSuch}
 use Rattle.rules.specs.Opcodes.{Class, stops, row}
-use Rattle.opcode.specs.Classes.{halts, said}
+use Rattle.opcode.specs.Meaning.{halts, said}
 
 -- what a match knows in its last arm: that none of the keys below k is met
 abbrev pub NoneOf : ℕ → ℕ → Type 0

@@ -9,9 +9,10 @@ ghost use Rattle.rules.specs.Machine.{pick};
 ghost use Rattle.rules.specs.Answers.{noSuch};
 ghost use Rattle.rules.specs.Opcodes;
 ghost use Rattle.rules.specs.Opcodes.{row, stops, does, ex, lowRows, oneRows, twoRows, moveClass, classOf};
-ghost use Rattle.opcode.specs.Classes.{meant, said};
+ghost use Rattle.opcode.specs.Meaning.{meant, said};
 
-// What an opcode does. Flags say, in this order: the source is immediate, the operands are words. A branch has the condition bit that takes it, and the upper bits of its target.
+// What an opcode does. Flags say, in this order: the source is immediate, the operands are words.
+// A branch has the condition bit that takes it, and the upper bits of its target.
 pub enum Task {
     Rtn,
     Rtnc,

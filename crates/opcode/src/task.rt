@@ -2,8 +2,8 @@
 use crate::class::Task;
 use machine::state::Now;
 ghost use Rattle.rules.specs.Tasks.{ruleOf};
-ghost use Rattle.machine.specs.Said.{_&_, Does, Image, IsPad, IsRegs, IsVram, Journal, Pad, Regs, Vram};
-ghost use Rattle.opcode.specs.Classes.{taskOf};
+ghost use Rattle.machine.specs.Meaning.{_&_, Does, Image, IsPad, IsRegs, IsVram, Journal, Pad, Regs, Vram};
+ghost use Rattle.opcode.specs.Meaning.{taskOf};
 
 pub fn perform(
     image: &[u8],

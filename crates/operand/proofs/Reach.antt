@@ -4,9 +4,8 @@ use mathlib.Core.Bool.{true, false}
 use mathlib.Core.List.{List}
 use Prim.Native.Nat.{ℕ, _+_, _≤_}
 use native.Mathlib.Nat.{le-trans}
-use native.Mathlib.Numerals.{add-one}
 use native.Mathlib.Omega.{arith}
-use lib.Dec.{eqb, eqb·suc-suc}
+use lib.Dec.{eqb}
 use borrow.Author.Tests.{leb-true}
 use Rattle.rules.specs.Machine.{Mem}
 use Rattle.rules.specs.Answers.{number, outside}
@@ -14,36 +13,34 @@ use Rattle.rules.specs.Rules.{Rule}
 use Rattle.rules.specs.Operands.{Cell, inReach, reached}
 use Rattle.rules.proofs.Undo.{reach-small}
 use Rattle.machine.specs.declared.state.Now.{Now}
-use Rattle.machine.specs.Said.{Stand, stand, standing, Goes}
+use Rattle.machine.specs.Meaning.{Stand, stand, standing, Goes}
 use Rattle.machine.proofs.Chain.{seq, gives}
 use Rattle.machine.proofs.Acts.{need-holds, refuses}
 use Rattle.operand.specs.declared.places.Place.{Place}
 use Rattle.operand.specs.declared.places.Operand.{Operand}
-use Rattle.operand.specs.Places.{cellOf, placeOf, nowOf}
+use Rattle.operand.specs.Meaning.{cellOf, placeOf, nowOf}
 
 -- a place in reach lies below 16,384
 pub near : (n : ℕ) (c : Cell) → inReach n c ≡ true → c .at + n ≤ 16384
 near n c h = le-trans (leb-true _ _ h) (reach-small (c .kind))
 
-module _ (n : ℕ) (c : Cell) {i : List ℕ} {a pc : ℕ} {m : Mem} where
-  pub reached-at : a ≡ 0 → inReach n c ≡ true → Goes i (stand a pc m) (reached n c) c (stand 0 pc m)
+module _ (n : ℕ) (c : Cell) {a pc : ℕ} {m : Mem} where
+  pub reached-at : a ≡ 0 → inReach n c ≡ true → Goes (stand a pc m) (reached n c) c (stand a pc m)
   unfolding reached
-  reached-at z h = rw z (seq (need-holds _ h) (gives refl))
+  reached-at z h = seq (need-holds _ h) (gives refl)
 
-  pub reached-out : {b pc₁ : ℕ} {v : Cell} → a ≡ 0 → inReach n c ≡ false → b ≡ number (outside (c .kind)) → Goes i (stand a pc m) (reached n c) v (stand b pc₁ m)
+  pub reached-out : {b : ℕ} {v : Cell} → a ≡ 0 → inReach n c ≡ false → b ≡ number (outside (c .kind)) → Goes (stand a pc m) (reached n c) v (stand b pc m)
   unfolding reached
   reached-out z h e = refuses _ _ z e h
 
 -- an operand as the code takes it apart, by its place and its state
 pub apart : {i p v g j : List ℕ} {s : Stand} {n : Now} {l : Place} {r : Rule Cell} (q : Operand)
-    → Goes i s r (cellOf (placeOf q)) (standing p v g j (nowOf q)) → n ≡ nowOf q → l ≡ placeOf q → Goes i s r (cellOf l) (standing p v g j n)
+    → Goes s r (cellOf (placeOf q)) (standing i p v g j (nowOf q)) → n ≡ nowOf q → l ≡ placeOf q → Goes s r (cellOf l) (standing i p v g j n)
 apart {i = i} {p = p} {v = v} {g = g} {j = j} {s = s} {l = l} {r = r} q e en el =
-    subst (λ (x : Now). Goes i s r (cellOf l) (standing p v g j x)) (sym en) (subst (λ (y : Place). Goes i s r (cellOf y) (standing p v g j (nowOf q))) (sym el) e)
+    subst (λ (x : Now). Goes s r (cellOf l) (standing i p v g j x)) (sym en)
+    (subst (λ (y : Place). Goes s r (cellOf y) (standing i p v g j (nowOf q))) (sym el) e)
 
--- the last byte of a word is the buffer where its first is the cell before it; of a byte, where it is the buffer
-pub word-ends : (a : ℕ) → eqb a 0x7C ≡ eqb (a + 1) 0x7D
-word-ends a = sym (ap (λ (n : ℕ). eqb n 0x7D) (add-one a) ∙ eqb·suc-suc a 0x7C)
-
+-- the last byte of a byte is itself
 pub byte-ends : (a : ℕ) → eqb a 0x7D ≡ eqb (a + 0) 0x7D
 byte-ends a =
     let z : a ≡ a + 0 = omega arith in

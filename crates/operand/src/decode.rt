@@ -3,7 +3,6 @@ use crate::places;
 use crate::places::Located;
 use crate::places::Operand;
 use crate::places::Place;
-use crate::places::Refusal;
 use machine::answers;
 use machine::cells;
 use machine::grom;
@@ -14,8 +13,8 @@ ghost use mathlib.Core.Path.{_≡_};
 ghost use Prim.Native.Nat.{_+_, _-_, _≤_};
 ghost use Rattle.rules.specs.Operands;
 ghost use Rattle.rules.specs.Operands.{onDataStack, operandOf};
-ghost use Rattle.machine.specs.Said.{_&_, Gives, Image, IsPad, Journal, Nothing, Pad};
-ghost use Rattle.operand.specs.Places.{cellOf, placeOf, Locates};
+ghost use Rattle.machine.specs.Meaning.{_&_, Gives, Image, IsPad, Journal, Nothing, Pad};
+ghost use Rattle.operand.specs.Meaning.{cellOf, placeOf, Locates, Names};
 
 // ---- the offset
 
@@ -58,34 +57,28 @@ pub fn indexed(image: &[u8], pad: &[u8], m: Now, x: bool, a: u16) -> Now
 
 // ---- the cell that an offset names
 
-// A place, beside the state that goes on.
-pub struct Spot {
-    pub now: Now,
-    pub place: Place,
-}
-
-fn through_word(pad: &[u8], m: Now, a: u16) -> Spot
+fn through_word(pad: &[u8], m: Now, a: u16) -> Located
     requires { ⌜ IsPad pad ⌝ }
-    ensures { λ r. ⌜ Gives (cellOf (r .place)) (Operands.throughWord a) (Pad pad) m (r .now) ⌝ }
+    ensures { λ r. ⌜ Names (Operands.throughWord a) (Pad pad) m r ⌝ }
 {
     let at = a as usize;
     let w = cpu::peek_pad_word(pad, m, at);
-    Spot {
-        now: w,
+    Located {
         place: Place::Vdp(w.word),
+        now: w,
     }
 }
 
-fn through_byte(pad: &[u8], m: Now, a: u16) -> Spot
+fn through_byte(pad: &[u8], m: Now, a: u16) -> Located
     requires { ⌜ IsPad pad ⌝ }
-    ensures { λ r. ⌜ Gives (cellOf (r .place)) (Operands.throughByte a) (Pad pad) m (r .now) ⌝ }
+    ensures { λ r. ⌜ Names (Operands.throughByte a) (Pad pad) m r ⌝ }
 {
     let at = a as usize;
     let b = cpu::peek_pad(pad, m, at);
     let to = b.byte as u16;
-    Spot {
-        now: b,
+    Located {
         place: Place::Cpu(to),
+        now: b,
     }
 }
 
@@ -110,58 +103,58 @@ fn down(b: u8) -> u8
 }
 
 // A pop off the data stack: the pointer's test, its store, and the cell.
-fn pop_cell(pad: &mut [u8], journal: &mut [u32], m: Now) -> Spot
+fn pop_cell(pad: &mut [u8], journal: &mut [u32], m: Now) -> Located
     requires { ⌜ IsPad pad ⌝ }
-    ensures { λ r. ⌜ Gives (cellOf (r .place)) Operands.popCell (Pad pad & Journal journal) m (r .now) ⌝ }
+    ensures { λ r. ⌜ Names Operands.popCell (Pad pad & Journal journal) m r ⌝ }
 {
     let p = cpu::peek_pad(pad, m, cells::DATA_POINTER);
     let top = p.byte as u16;
     let tested = state::need(p, on_data_stack(top), answers::OFF_STACK);
     let below = down(p.byte);
     let lowered = cpu::poke_pad(pad, journal, tested, cells::DATA_POINTER, below);
-    Spot {
-        now: lowered,
+    Located {
         place: Place::Cpu(top),
+        now: lowered,
     }
 }
 
-fn through_pad(pad: &mut [u8], journal: &mut [u32], m: Now, a: u16) -> Spot
+fn through_pad(pad: &mut [u8], journal: &mut [u32], m: Now, a: u16) -> Located
     requires { ⌜ IsPad pad ⌝ }
-    ensures { λ r. ⌜ Gives (cellOf (r .place)) (Operands.throughPad a) (Pad pad & Journal journal) m (r .now) ⌝ }
+    ensures { λ r. ⌜ Names (Operands.throughPad a) (Pad pad & Journal journal) m r ⌝ }
 {
-    if a == 0x7C {
+    if a as usize == cells::STATUS {
         return pop_cell(pad, journal, m);
     }
     through_byte(pad, m, a)
 }
 
 // By the bits V and I.
-fn named(pad: &mut [u8], journal: &mut [u32], m: Now, v: bool, i: bool, a: u16) -> Spot
+fn named(pad: &mut [u8], journal: &mut [u32], m: Now, v: bool, i: bool, a: u16) -> Located
     requires { ⌜ IsPad pad ⌝ }
-    ensures { λ r. ⌜ Gives (cellOf (r .place)) (Operands.named v i a) (Pad pad & Journal journal) m (r .now) ⌝ }
+    ensures { λ r. ⌜ Names (Operands.named v i a) (Pad pad & Journal journal) m r ⌝ }
 {
     if v {
         if i {
             return through_word(pad, m, a);
         }
-        return Spot {
-            now: m,
+        return Located {
             place: Place::Vdp(a),
+            now: m,
         };
     }
     if i {
         return through_pad(pad, journal, m, a);
     }
-    Spot {
-        now: m,
+    Located {
         place: Place::Cpu(a),
+        now: m,
     }
 }
 
 // An operand of more than one byte, by its first: 1XVIaaaa.
-fn far_cell(image: &[u8], pad: &mut [u8], journal: &mut [u32], m: Now, b: u8) -> Spot
+fn far_cell(image: &[u8], pad: &mut [u8], journal: &mut [u32], m: Now, b: u8) -> Located
     requires { ⌜ IsPad pad ⌝ }
-    ensures { λ r. ⌜ Gives (cellOf (r .place)) (Operands.farCell b) (Image image & Pad pad & Journal journal) m (r .now) ⌝ }
+    ensures { λ r. ⌜ Names (Operands.farCell b) (Image image & Pad pad & Journal journal) m r ⌝ }
 {
     let a = offset(image, m, number::bits::nibble(b));
     let e = indexed(image, pad, a, number::bits::bit(6, b), a.word);
@@ -175,15 +168,15 @@ fn far_cell(image: &[u8], pad: &mut [u8], journal: &mut [u32], m: Now, b: u8) ->
     )
 }
 
-fn any_cell(image: &[u8], pad: &mut [u8], journal: &mut [u32], m: Now, b: u8) -> Spot
+fn any_cell(image: &[u8], pad: &mut [u8], journal: &mut [u32], m: Now, b: u8) -> Located
     requires { ⌜ IsPad pad ⌝ }
-    ensures { λ r. ⌜ Gives (cellOf (r .place)) (Operands.anyCell b) (Image image & Pad pad & Journal journal) m (r .now) ⌝ }
+    ensures { λ r. ⌜ Names (Operands.anyCell b) (Image image & Pad pad & Journal journal) m r ⌝ }
 {
     if b < 0x80 {
         let near = b as u16;
-        return Spot {
-            now: m,
+        return Located {
             place: Place::Cpu(near),
+            now: m,
         };
     }
     far_cell(image, pad, journal, m, b)
@@ -192,31 +185,21 @@ fn any_cell(image: &[u8], pad: &mut [u8], journal: &mut [u32], m: Now, b: u8) ->
 // ---- the operand
 
 // A place that n bytes from there on are in range of, or a refusal.
-fn answered(m: Now, place: Place, n: u32) -> Operand
+fn answered(m: Now, place: Place, n: usize) -> Operand
     requires { ⌜ n ≤ 2 ⌝ }
     ensures { λ r. ⌜ (cellOf (placeOf r) .at + n ≤ 16384) × Locates (Operands.reached n (cellOf place)) Nothing m r ⌝ }
 {
     if m.answer != 0 {
-        return Operand::Refused(Refusal {
-            answer: m.answer,
-            used: m.used,
-        });
+        return Operand::Refused(m);
     }
     if places::in_reach(n, place) {
-        return Operand::At(Located {
-            place,
-            pc: m.pc,
-            used: m.used,
-        });
+        return Operand::At(Located { place, now: m });
     }
-    Operand::Refused(Refusal {
-        answer: places::outside(place),
-        used: m.used,
-    })
+    Operand::Refused(state::refused(m, places::outside(place)))
 }
 
 // An operand of which n bytes must be in range: 1 for a byte or a place, 2 for a word.
-pub fn operand(image: &[u8], pad: &mut [u8], journal: &mut [u32], m: Now, n: u32) -> Operand
+pub fn operand(image: &[u8], pad: &mut [u8], journal: &mut [u32], m: Now, n: usize) -> Operand
     requires { ⌜ IsPad pad × (n ≤ 2) ⌝ }
     ensures { λ r. ⌜ (cellOf (placeOf r) .at + n ≤ 16384) × Locates (operandOf n) (Image image & Pad pad & Journal journal) m r ⌝ }
 {

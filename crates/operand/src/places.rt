@@ -1,34 +1,28 @@
 // A CPU cell, a VDP cell or a refusal.
 use machine::answers;
+use machine::cells;
 use machine::state::Now;
 ghost use mathlib.Core.Path.{_≡_};
 ghost use Prim.Native.Nat.{_+_, _≤_, _<_};
 ghost use Rattle.rules.specs.Answers;
 ghost use Rattle.rules.specs.Answers.{number};
 ghost use Rattle.rules.specs.Operands.{inReach, past, isBuffer};
-ghost use Rattle.operand.specs.Places.{cellOf, placeOf, nowOf};
+ghost use Rattle.operand.specs.Meaning.{cellOf, placeOf, nowOf};
 
 pub enum Place {
     Cpu(u16),
     Vdp(u16),
 }
 
-// A place, with the next pc and the words used so far.
+// A place, with the state that goes on from it: the next pc stands there.
 pub struct Located {
     pub place: Place,
-    pub pc: u16,
-    pub used: usize,
-}
-
-// A refusal by its number, with the words used so far.
-pub struct Refusal {
-    pub answer: u8,
-    pub used: usize,
+    pub now: Now,
 }
 
 pub enum Operand {
     At(Located),
-    Refused(Refusal),
+    Refused(Now),
 }
 
 // The place, where there is one.
@@ -46,36 +40,24 @@ pub fn now_of(o: Operand) -> Now
     ensures { λ r. ⌜ r ≡ nowOf o ⌝ }
 {
     match o {
-        Operand::At(l) => Now {
-            pc: l.pc,
-            used: l.used,
-            answer: 0,
-            byte: 0,
-            word: 0,
-        },
-        Operand::Refused(f) => Now {
-            pc: 0,
-            used: f.used,
-            answer: f.answer,
-            byte: 0,
-            word: 0,
-        },
+        Operand::At(l) => l.now,
+        Operand::Refused(n) => n,
     }
 }
 
 // n bytes from a place on are in range.
-pub fn in_reach(n: u32, place: Place) -> bool
+pub fn in_reach(n: usize, place: Place) -> bool
     requires { ⌜ n ≤ 2 ⌝ }
     ensures { λ r. ⌜ r ≡ inReach n (cellOf place) ⌝ }
 {
     match place {
         Place::Cpu(a) => {
-            let last = a as u32 + n;
-            last <= 0xE0
+            let last = a as usize + n;
+            last <= cells::PAD_REACH
         }
         Place::Vdp(a) => {
-            let last = a as u32 + n;
-            last <= 16384
+            let last = a as usize + n;
+            last <= cells::VDP_REACH
         }
     }
 }
@@ -112,7 +94,7 @@ pub fn is_buffer(place: Place) -> bool
     ensures { λ r. ⌜ r ≡ isBuffer (cellOf place) ⌝ }
 {
     match place {
-        Place::Cpu(a) => a == 0x7D,
+        Place::Cpu(a) => a as usize == cells::BUFFER,
         Place::Vdp(_) => false,
     }
 }

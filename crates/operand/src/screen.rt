@@ -9,7 +9,7 @@ ghost use mathlib.Core.Path.{_≡_};
 ghost use Prim.Native.Nat.{_<_};
 ghost use Rattle.rules.specs.Operands;
 ghost use Rattle.rules.specs.Operands.{onScreen};
-ghost use Rattle.machine.specs.Said.{_&_, Does, Gives, IsPad, IsVram, Journal, Pad, Vram};
+ghost use Rattle.machine.specs.Meaning.{_&_, Does, Gives, IsPad, IsVram, Journal, Pad, Vram};
 
 // The position that row and column name. Also of a machine that has refused it is below 8,192: a sum with a step fits.
 pub fn position(pad: &[u8], m: Now) -> Now
@@ -24,7 +24,7 @@ pub fn position(pad: &[u8], m: Now) -> Now
 fn on_screen(p: u16) -> bool
     ensures { λ r. ⌜ r ≡ onScreen p ⌝ }
 {
-    p < 16384
+    (p as usize) < cells::VDP_REACH
 }
 
 // A screen store: 9 before 10.

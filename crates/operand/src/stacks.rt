@@ -7,7 +7,7 @@ ghost use Rattle.rules.specs.Answers.{offStack};
 ghost use Rattle.rules.specs.Rules.{need};
 ghost use Rattle.rules.specs.Instructions;
 ghost use Rattle.rules.specs.Instructions.{onSubStack, pushPc, popPc};
-ghost use Rattle.machine.specs.Said.{_&_, Does, Gives, IsPad, Journal, Nothing, Pad};
+ghost use Rattle.machine.specs.Meaning.{_&_, Does, Gives, IsPad, Journal, Nothing, Pad};
 
 // Even, and from >80 to >9E.
 fn on_sub_stack(p: u16) -> bool

@@ -2,7 +2,7 @@
 use machine::cells;
 use machine::state::Now;
 ghost use Rattle.rules.specs.Instructions.{setCondition};
-ghost use Rattle.machine.specs.Said.{_&_, Does, IsPad, Journal, Pad};
+ghost use Rattle.machine.specs.Meaning.{_&_, Does, IsPad, Journal, Pad};
 
 pub fn set_condition(pad: &mut [u8], journal: &mut [u32], m: Now, c: bool) -> Now
     requires { ⌜ IsPad pad ⌝ }

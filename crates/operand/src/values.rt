@@ -3,6 +3,7 @@ use crate::decode;
 use crate::places;
 use crate::places::Place;
 use crate::screen;
+use machine::cells;
 use machine::grom;
 use machine::pad as cpu;
 use machine::state;
@@ -14,11 +15,11 @@ ghost use Rattle.rules.specs.Rules.{give, peek, peekWord, poke};
 ghost use Rattle.rules.specs.Operands;
 ghost use Rattle.rules.specs.Operands.{byteCount, past, isBuffer, pokeWord};
 ghost use Rattle.rules.specs.Arithmetic.{half, span};
-ghost use Rattle.machine.specs.Said.{_&_, Does, Gives, Image, IsPad, IsVram, Journal, Nothing, Pad, Vram};
-ghost use Rattle.operand.specs.Places.{cellOf};
+ghost use Rattle.machine.specs.Meaning.{_&_, Does, Gives, Image, IsPad, IsVram, Journal, Nothing, Pad, Vram};
+ghost use Rattle.operand.specs.Meaning.{cellOf};
 
 // How many bytes a width has.
-pub fn byte_count(wide: bool) -> u32
+pub fn byte_count(wide: bool) -> usize
     ensures { λ r. ⌜ (r ≡ byteCount wide) × (1 ≤ r) × (r ≤ 2) ⌝ }
 {
     if wide {
@@ -181,10 +182,12 @@ fn ends_in_buffer(wide: bool, place: Place) -> bool
 {
     match place {
         Place::Cpu(a) => {
+            let at = a as usize;
             if wide {
-                return a == 0x7C;
+                let last = at + 1;
+                return last == cells::BUFFER;
             }
-            a == 0x7D
+            at == cells::BUFFER
         }
         Place::Vdp(_) => false,
     }

@@ -1,5 +1,5 @@
 -- The journal above the used words plays no part: to blank it commutes with all that the machine does.
-use mathlib.Core.Path.{_≡_, refl, _∙_, ap, sym}
+use mathlib.Core.Path.{_≡_, refl, _∙_, ap, sym, subst}
 use mathlib.Core.Bool.{Bool, true, false}
 use mathlib.Core.List.{List, [], _∷_}
 use Prim.Native.Nat.{ℕ, zero, suc, _%_, _≤_, _<_}
@@ -7,10 +7,12 @@ use native.Mathlib.Nat.{le-of-suc-le-suc, not-suc-le-zero, le-refl}
 use native.Mathlib.Omega.{arith}
 use lib.Dec.{ltb}
 use lib.ListN.{length, getD, set, take}
-use Rattle.rules.specs.Machine.{pick, Kind, reach, Mem, cells, put, beside, onward}
+use Rattle.rules.specs.Machine.{pick, Kind, reach, Mem, State, state, cells, put, beside, onward}
 use Rattle.rules.specs.Answers.{number, noRoom, offGrom, outside}
-use Rattle.rules.specs.Journal.{lay, Store, storeOf, wordOf, make, Note, note, restore, zeroTop, undoTop, undo, blank, blanked}
-use Rattle.rules.specs.Rules.{Act, next, grom, ask, jump, load, store, Rule, give, refuse, act, Out, got, stopped, then, room, perform, exec}
+use Rattle.rules.specs.Journal.{markWord, lay, Store, storeOf, wordOf, make, Note, note, restore, zeroTop, undoTop, undo, blank, blanked}
+use Rattle.rules.specs.Rules.{Act, next, grom, ask, jump, load, store, Out, got, stopped, room, perform}
+use Rattle.rules.specs.Calls.{takeMark, attempt}
+use Rattle.rules.proofs.Kept.{Both, on, off, Keeps, attempt-keeps}
 use Rattle.rules.proofs.Undo.{restore-beside}
 
 -- the first u words, and 0 in place of each other
@@ -88,20 +90,29 @@ blanked-clear n m = ap (λ (l : List ℕ). beside l (m .used) m) (blank-keep n (
 pub clear-lay : (w : ℕ) (m : Mem) → clear (lay w m) ≡ lay w (clear m)
 clear-lay w m = ap (λ (l : List ℕ). beside l (suc (m .used)) m) (keep-lay (m .used) (m .journal) w)
 
--- ---- of the rules: by induction on the rule
+-- ---- of the rules: every action and every mark keep it, so each step does
+
+abbrev pub clearS : State → State
+clearS s = state (s .pc) (clear (s .mem))
 
 abbrev pub cleared : {A : Type 0} → Out A → Out A
 cleared (got a pc m) = got a pc (clear m)
 cleared (stopped n m) = stopped n (clear m)
 
-pub cleared-pick : {A : Type 0} (c : Bool) (x y : Out A) → cleared (pick c x y) ≡ pick c (cleared x) (cleared y)
+abbrev Cleared : {A : Type 0} → Out A → Out A → Type 0
+Cleared o p = Both (λ s t. t ≡ clearS s) (λ n m m₁. m₁ ≡ clear m) o p
+
+as-cleared : {A : Type 0} (o : Out A) → Cleared o (cleared o)
+as-cleared (got a pc m) = on refl
+as-cleared (stopped n m) = off refl
+
+is-cleared : {A : Type 0} {o p : Out A} → Cleared o p → p ≡ cleared o
+is-cleared (on {a} h) = ap (λ (x : State). got a (x .pc) (x .mem)) h
+is-cleared (off {n} h) = ap (stopped n) h
+
+cleared-pick : {A : Type 0} (c : Bool) (x y : Out A) → cleared (pick c x y) ≡ pick c (cleared x) (cleared y)
 cleared-pick true x y = refl
 cleared-pick false x y = refl
-
-pub cleared-then : {A B : Type 0} (o : Out A) (g h : A → ℕ → Mem → Out B)
-    → ((a : A) (pc : ℕ) (m : Mem) → cleared (g a pc m) ≡ h a pc (clear m)) → cleared (then o g) ≡ then (cleared o) h
-cleared-then (got a pc m) g h e = e a pc m
-cleared-then (stopped n m) g h e = refl
 
 clear-store : (k : Kind) (a b pc : ℕ) (m : Mem)
     → cleared {A = ℕ} (pick (room m) (got 0 pc (make (storeOf k a b m) m)) (stopped (number noRoom) m))
@@ -111,24 +122,34 @@ clear-store k a b pc m =
     cleared-pick (room m) (got 0 pc (make s m)) (stopped (number noRoom) m)
     ∙ rw (length-keep (m .used) (m .journal), clear-lay (wordOf s) (put k a b m))
 
-pub perform-clear : (q : Act) (i : List ℕ) (pc : ℕ) (m : Mem) → cleared (perform q i pc m) ≡ perform q i pc (clear m)
+perform-clear : (q : Act) (pc : ℕ) (m : Mem) → cleared (perform q pc m) ≡ perform q pc (clear m)
 unfolding perform
-perform-clear next i pc m = cleared-pick (ltb pc (length i)) (got (getD i pc 0) (onward pc) m) (stopped (number offGrom) m)
-perform-clear (grom a) i pc m = cleared-pick (ltb a (length i)) (got (getD i a 0) pc m) (stopped (number offGrom) m)
-perform-clear ask i pc m = refl
-perform-clear (jump a) i pc m = refl
-perform-clear (load k a) i pc m = cleared-pick (ltb a (reach k)) (got (getD (cells k m) a 0) pc m) (stopped (number (outside k)) m)
-perform-clear (store k a b) i pc m =
+perform-clear next pc m = cleared-pick (ltb pc (length (m .image))) (got (getD (m .image) pc 0) (onward pc) m) (stopped (number offGrom) m)
+perform-clear (grom a) pc m = cleared-pick (ltb a (length (m .image))) (got (getD (m .image) a 0) pc m) (stopped (number offGrom) m)
+perform-clear ask pc m = refl
+perform-clear (jump a) pc m = refl
+perform-clear (load k a) pc m = cleared-pick (ltb a (reach k)) (got (getD (cells k m) a 0) pc m) (stopped (number (outside k)) m)
+perform-clear (store k a b) pc m =
     cleared-pick (ltb a (reach k)) (pick (room m) (got 0 pc (make (storeOf k a (b % 256) m) m)) (stopped (number noRoom) m)) (stopped (number (outside k)) m)
     ∙ ap (λ (o : Out ℕ). pick (ltb a (reach k)) o (stopped (number (outside k)) (clear m))) (clear-store k a (b % 256) pc m)
 
-pub exec-clear : {A : Type 0} (r : Rule A) (i : List ℕ) (pc : ℕ) (m : Mem) → cleared (exec r i pc m) ≡ exec r i pc (clear m)
-unfolding exec
-exec-clear (give a) i pc m = refl
-exec-clear (refuse why) i pc m = refl
-exec-clear (act q k) i pc m =
-    cleared-then (perform q i pc m) (λ v. exec (k v) i) (λ v. exec (k v) i) (λ v. exec-clear (k v) i)
-    ∙ ap (λ (o : Out ℕ). then o (λ v pc₁ m₁. exec (k v) i pc₁ m₁)) (perform-clear q i pc m)
+takeMark-clear : (pc pc₁ : ℕ) (m : Mem) → cleared (takeMark pc pc₁ m) ≡ takeMark pc pc₁ (clear m)
+unfolding takeMark
+takeMark-clear pc pc₁ m =
+    cleared-pick (room m) (got tt pc₁ (lay (markWord pc) m)) (stopped (number noRoom) m)
+    ∙ rw (clear-lay (markWord pc) m, length-keep (m .used) (m .journal))
+
+keeps-clear : Keeps (λ s t. t ≡ clearS s) (λ n m m₁. m₁ ≡ clear m)
+keeps-clear =
+    record {
+      acts = λ q s t e. rw e (subst (Cleared (perform q (s .pc) (s .mem))) (perform-clear q (s .pc) (s .mem)) (as-cleared (perform q (s .pc) (s .mem))));
+      marks = λ pc s t e. rw e (subst (Cleared (takeMark pc (s .pc) (s .mem))) (takeMark-clear pc (s .pc) (s .mem))
+          (as-cleared (takeMark pc (s .pc) (s .mem))));
+      refuses = λ why s t e. ap (λ (x : State). x .mem) e;
+    }
+
+pub attempt-clear : (s : State) → attempt (clearS s) ≡ cleared (attempt s)
+attempt-clear s = is-cleared (attempt-keeps keeps-clear s (clearS s) refl refl)
 
 -- ---- of undoing
 

@@ -9,14 +9,14 @@ use Rattle.rules.specs.Opcodes.{moveClass, classOf}
 use Rattle.rules.specs.Arithmetic.{above, complement, extended, statusByte, compared, withCondition, tested, sum, carries, overflows, sumStatus}
 use Rattle.rules.specs.Arithmetic.{shiftCount, arithmetic, leftward, rightward, circular, repeated, absolute, inverse, oneEffect, twoEffect}
 use Rattle.rules.specs.Arithmetic.{nextSeed, randomOf}
-use Rattle.rules.specs.Instructions.{setCondition, storeEffect, oneRule, twoRule, testRule, mulRule, divOverflow, divResults, divided, divRule}
+use Rattle.rules.specs.Instructions.{setCondition, storeEffect, oneRule, twoRule, testRule, halves, mulRule, divOverflow, divResults, divided, divRule}
 use Rattle.rules.specs.Instructions.{exRule, raise, pushPc, popPc, pushRule, jumpInGroup, jumpIf, branchRule, longRule, callRule, rtnRule}
 use Rattle.rules.specs.Instructions.{rtncRule, caseRule, fetchRule, randRule, backRule, fill, allRule, moveLength, registerCell, moveTarget}
 use Rattle.rules.specs.Instructions.{gromSource, cellSource, moveSource, sourceByte, registerOne, deliver, moveByte, moveBytes, moveCount}
 use Rattle.rules.specs.Instructions.{moveRule}
 use Rattle.rules.specs.Format.{setCursor, wrapShow, wrapSkip, show, skip, showNext, text, showTimes, repeatText, cpuOperand, showCell}
 use Rattle.rules.specs.Format.{padText, operandText, goOn, openBlock, closeBlock, repeatBlock, blockTurn, endInside, settleCursor}
-use Rattle.rules.specs.Format.{endOutside, endCode, gromBias, operandBias, cursorCode, codeRule, code, codes, fmtRule}
+use Rattle.rules.specs.Format.{endOutside, endCode, gromBias, operandBias, cursorCode, lastRow, codeRule, code, codes, fmtRule}
 use Rattle.rules.specs.Tasks.{ruleOf}
 use Rattle.rules.specs.Calls.{imageFits, partsFit, takeMark, begin, attempt, fitStep, step, beginStores, stepStores, steps, run, scan}
 use Rattle.rules.specs.Calls.{fitBack, stepBack, view}
@@ -31,11 +31,11 @@ unfolding _also_ bit
     moveClass classOf
     above complement extended statusByte compared withCondition tested sum carries overflows sumStatus shiftCount arithmetic leftward rightward
     circular repeated absolute inverse oneEffect twoEffect nextSeed randomOf
-    setCondition storeEffect oneRule twoRule testRule mulRule divOverflow divResults divided divRule exRule raise pushPc popPc pushRule jumpInGroup
+    setCondition storeEffect oneRule twoRule testRule halves mulRule divOverflow divResults divided divRule exRule raise pushPc popPc pushRule jumpInGroup
     jumpIf branchRule longRule callRule rtnRule rtncRule caseRule fetchRule randRule backRule fill allRule moveLength registerCell moveTarget
     gromSource cellSource moveSource sourceByte registerOne deliver moveByte moveBytes moveCount moveRule
     setCursor wrapShow wrapSkip show skip showNext text showTimes repeatText cpuOperand showCell padText operandText goOn openBlock closeBlock
-    repeatBlock blockTurn endInside settleCursor endOutside endCode gromBias operandBias cursorCode codeRule code codes fmtRule
+    repeatBlock blockTurn endInside settleCursor endOutside endCode gromBias operandBias cursorCode lastRow codeRule code codes fmtRule
     ruleOf
     imageFits partsFit takeMark begin attempt fitStep step beginStores stepStores steps run scan fitBack stepBack view
     passes everyPasses

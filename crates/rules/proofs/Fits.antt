@@ -11,9 +11,9 @@ use Rattle.rules.specs.Answers.{number, wrongLength}
 use Rattle.rules.specs.Journal.{markWord, lay, Store}
 use Rattle.rules.specs.Calls.{partsFit, memFits, fits, Reply, refused, fitStep, step, stepStores, fitBack, stepBack}
 use Rattle.rules.specs.Demands.{Good, Accepted}
-use Rattle.rules.proofs.Stores.{lengths-after, journal-length, used-fits}
-use Rattle.rules.proofs.Clear.{length-keep}
-use Rattle.rules.proofs.Steps.{Stepped, Settled, settled, clearS, clearR, step-clear, back-clear}
+use Rattle.rules.proofs.Stores.{image-after, lengths-after, journal-length, used-fits}
+use Rattle.rules.proofs.Clear.{clearS, length-keep}
+use Rattle.rules.proofs.Steps.{Stepped, Settled, settled, clearR, step-clear, back-clear}
 
 abbrev Is : Bool → Type 0
 Is true = Unit {0}
@@ -48,40 +48,40 @@ module _ (p v r j u : ℕ) where
       together (pads .0) (together (vrams .0) (together (regs .0) (together (both (regs .1) .0) (le-leb w j l))))
 
 -- an accepted step leaves parts that fit, if they did
-pub fits-after : {s t : State} {ss : List Store} → Stepped s ss t → memFits (s .mem) ≡ true → memFits (t .mem) ≡ true
+pub fits-after : {s t : State} {ss : List Store} → Stepped s ss t → fits (s .mem) ≡ true → fits (t .mem) ≡ true
 fits-after {s} {t} h f =
     let m : Mem = s .mem in
     let l : length (lay (markWord (s .pc)) m .journal) ≡ length (m .journal) = length-set (m .journal) (m .used) (markWord (s .pc)) in
     let k : t .mem .used ≤ length (t .mem .journal) = used-fits (h .makes) (rw l (h .word-left)) in
     let e : length (t .mem .journal) ≡ length (m .journal) = journal-length (h .makes) ∙ l in
-    rw (lengths-after cpu (h .makes), lengths-after vdp (h .makes), lengths-after register (h .makes), e)
-    (parts-other _ _ _ _ (m .used) (t .mem .used) (subst (λ (n : ℕ). t .mem .used ≤ n) e k) f)
+    rw (image-after (h .makes), lengths-after cpu (h .makes), lengths-after vdp (h .makes), lengths-after register (h .makes), e)
+    (together (both f .0) (parts-other _ _ _ _ (m .used) (t .mem .used) (subst (λ (n : ℕ). t .mem .used ≤ n) e k) (both f .1)))
 
 -- ---- the calls
 
-module _ (i : List ℕ) (s : State) where
-  pub step-fit : fits i s ≡ true → step i s ≡ fitStep i s
+module _ (s : State) where
+  pub step-fit : fits (s .mem) ≡ true → step s ≡ fitStep s
   unfolding step
   step-fit h = rw h
 
-  pub step-unfit : fits i s ≡ false → step i s ≡ refused (number wrongLength) s
+  pub step-unfit : fits (s .mem) ≡ false → step s ≡ refused (number wrongLength) s
   unfolding step
   step-unfit h = rw h
 
   -- what is known of every step, by what is known of one whose parts fit and of one whose parts don't
-  pub step-cases : (P : Reply → Type 0) → (fits i s ≡ true → P (fitStep i s)) → (fits i s ≡ false → P (refused (number wrongLength) s)) → P (step i s)
+  pub step-cases : (P : Reply → Type 0) → (fits (s .mem) ≡ true → P (fitStep s)) → (fits (s .mem) ≡ false → P (refused (number wrongLength) s)) → P (step s)
   unfolding step
-  step-cases P f g = go (fits i s) refl
+  step-cases P f g = go (fits (s .mem)) refl
     where
-      go : (c : Bool) → fits i s ≡ c → P (pick c (fitStep i s) (refused (number wrongLength) s))
+      go : (c : Bool) → fits (s .mem) ≡ c → P (pick c (fitStep s) (refused (number wrongLength) s))
       go true e = f e
       go false e = g e
 
-  pub accepted-fits : Accepted (step i s) → fits i s ≡ true
-  accepted-fits = step-cases (λ r. Accepted r → fits i s ≡ true) (λ e a. e) (λ e a. absurd a)
+  pub accepted-fits : Accepted (step s) → fits (s .mem) ≡ true
+  accepted-fits = step-cases (λ r. Accepted r → fits (s .mem) ≡ true) (λ e a. e) (λ e a. absurd a)
 
-  pub step-settled : Good s → Settled s (stepStores i s) (step i s)
-  step-settled g = step-cases (Settled s (stepStores i s)) (λ e. settled i s g) (λ e. record { taken = 0; same = refl })
+  pub step-settled : Good s → Settled s (stepStores s) (step s)
+  step-settled g = step-cases (Settled s (stepStores s)) (λ e. settled s g) (λ e. record { taken = 0; same = refl })
 
 pub back-fit : (s : State) → memFits (s .mem) ≡ true → stepBack s ≡ fitBack s
 unfolding stepBack
@@ -93,10 +93,10 @@ clearR-pick : (c : Bool) (r q : Reply) → clearR (pick c r q) ≡ pick c (clear
 clearR-pick true r q = refl
 clearR-pick false r q = refl
 
-pub call-clear : (i : List ℕ) (s : State) → clearR (step i s) ≡ step i (clearS s)
+pub call-clear : (s : State) → clearR (step s) ≡ step (clearS s)
 unfolding step
-call-clear i s =
-    clearR-pick (fits i s) (fitStep i s) (refused (number wrongLength) s) ∙ rw (step-clear i s, length-keep (s .mem .used) (s .mem .journal))
+call-clear s =
+    clearR-pick (fits (s .mem)) (fitStep s) (refused (number wrongLength) s) ∙ rw (step-clear s, length-keep (s .mem .used) (s .mem .journal))
 
 pub call-back-clear : (s : State) → clearR (stepBack s) ≡ stepBack (clearS s)
 unfolding stepBack

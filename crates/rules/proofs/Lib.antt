@@ -2,6 +2,7 @@ pub mod Laws
 pub mod Loops
 pub mod Stores
 pub mod Undo
+pub mod Kept
 pub mod Clear
 pub mod Steps
 pub mod Fits

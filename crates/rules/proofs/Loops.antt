@@ -2,14 +2,14 @@
 use mathlib.Core.Path.{_≡_, _∙_, ap}
 use Prim.Native.Nat.{ℕ, suc, _+_, _-_, _<_}
 use native.Mathlib.Omega.{arith}
-use Rattle.rules.specs.Rules.{Rule, give, _>>=_}
+use Rattle.rules.specs.Rules.{Deed, give, _>>=_}
 
 -- f, of how many turns are left and of a number that goes up with each, is r as often
-pub record Repeats (f : ℕ → ℕ → Rule (Unit {0})) (r : ℕ → Rule (Unit {0})) : Type 0 where
+pub record Repeats (f : ℕ → ℕ → Deed) (r : ℕ → Deed) : Type 0 where
   pub none : (a : ℕ) → f 0 a ≡ give tt
   pub more : (n a : ℕ) → f (suc n) a ≡ (r a >>= (λ _. f n (suc a)))
 
-module _ {f : ℕ → ℕ → Rule (Unit {0})} {r : ℕ → Rule (Unit {0})} (t : Repeats f r) where
+module _ {f : ℕ → ℕ → Deed} {r : ℕ → Deed} (t : Repeats f r) where
   -- a turn, n being left
   pub down : {n : ℕ} (a : ℕ) → 0 < n → f n a ≡ (r a >>= (λ _. f (n - 1) (a + 1)))
   down {n = n} a h =

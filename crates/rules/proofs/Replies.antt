@@ -18,27 +18,27 @@ use Rattle.rules.proofs.Named.{NamedReply, named-step}
 pub tried-count : {pc pc₂ : ℕ} {m m₂ : Mem} {ss : List Store} → Tried pc m ss (got tt pc₂ m₂) → m₂ .used ≡ suc (m .used) + length ss
 tried-count (late h t) = used-after t
 
-module _ (i : List ℕ) (s : State) where
+module _ (s : State) where
   -- the two demands, by how a call ended
   abbrev Met : Reply → Type 0
-  Met (done t) = Demand2 i s t (length (stepStores i s))
-  Met (refused n t) = Listed n → Demand1 i s n t
+  Met (done t) = Demand2 s t (length (stepStores s))
+  Met (refused n t) = Listed n → Demand1 s n t
 
-  left-refused : (n k : ℕ) → begunWords i s ≡ k → Listed n → Demand1 i s n (state (s .pc) (blanked k (s .mem)))
-  left-refused n k e l = subst (λ (x : ℕ). Demand1 i s n (state (s .pc) (blanked x (s .mem)))) e
+  left-refused : (n k : ℕ) → begunWords s ≡ k → Listed n → Demand1 s n (state (s .pc) (blanked k (s .mem)))
+  left-refused n k e l = subst (λ (x : ℕ). Demand1 s n (state (s .pc) (blanked x (s .mem)))) e
       (record { listed = l; address = refl; memories = λ k. refl; used = refl; words = refl })
 
-  met-settle : (o : Out (Unit {0})) → fits i s ≡ true → attempt i s ≡ o → Met (settle s o)
+  met-settle : (o : Out (Unit {0})) → fits (s .mem) ≡ true → attempt s ≡ o → Met (settle s o)
   met-settle (got a pc₁ m₁) f e =
-      record { fit = f; left = e; count = refl; words = tried-count (subst (Tried (s .pc) (s .mem) (stepStores i s)) e (tried i (s .pc) (s .mem))) }
+      record { fit = f; left = e; count = refl; words = tried-count (subst (Tried (s .pc) (s .mem) (stepStores s)) e (tried (s .pc) (s .mem))) }
   met-settle (stopped n m₁) f e = left-refused n (m₁ .used - s .mem .used) (rw (f, e))
 
-  met : Met (step i s)
+  met : Met (step s)
   unfolding fitStep
-  met = step-cases i s Met (λ f. met-settle (attempt i s) f refl) (λ f. left-refused 11 0 (rw f))
+  met = step-cases s Met (λ f. met-settle (attempt s) f refl) (λ f. left-refused 11 0 (rw f))
 
-  pub demand1 : (n : ℕ) (t : State) → step i s ≡ refused n t → Demand1 i s n t
-  demand1 n t e = subst Met e met (subst NamedReply e (named-step i s))
+  pub demand1 : (n : ℕ) (t : State) → step s ≡ refused n t → Demand1 s n t
+  demand1 n t e = subst Met e met (subst NamedReply e (named-step s))
 
-  pub demand2 : (t : State) → step i s ≡ done t → Demand2 i s t (length (stepStores i s))
+  pub demand2 : (t : State) → step s ≡ done t → Demand2 s t (length (stepStores s))
   demand2 t e = subst Met e met

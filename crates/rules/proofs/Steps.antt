@@ -8,61 +8,43 @@ use native.Mathlib.Omega.{arith}
 use lib.Dec.{ltb, lit<}
 use lib.ListN.{length, getD, set}
 use lib.Seq.{getD-set-same, getD-set-other}
-use borrow.Author.Tests.{ltb-true}
-use Rattle.rules.specs.Machine.{pick, reach, Mem, State, state, cells, onward}
-use Rattle.rules.specs.Answers.{number, noRoom, offGrom, outside}
-use Rattle.rules.specs.Journal.{markWord, lay, Store, storeOf, wordOf, make, Note, mark, note, undoTop, undo, blanked}
-use Rattle.rules.specs.Rules.{Act, next, grom, ask, jump, load, store, Rule, give, refuse, act, Out, got, stopped, then, room, perform, exec, after, stores, storesThen}
+use borrow.Author.Tests.{ltb-true, lt-ltb}
+use Rattle.rules.specs.Machine.{pick, Kind, reach, Mem, State, state, onward}
+use Rattle.rules.specs.Answers.{number, noRoom, offGrom}
+use Rattle.rules.specs.Journal.{markWord, lay, Store, wordOf, Note, stood, mark, note, undoTop, undo, blanked}
+use Rattle.rules.specs.Rules.{Act, next, grom, ask, jump, load, store, Deed, Out, got, stopped, then, room, perform, after, stores, storesThen}
 use Rattle.rules.specs.Opcodes.{Class, stops, does, classOf}
 use Rattle.rules.specs.Tasks.{ruleOf}
-use Rattle.rules.specs.Calls.{Reply, done, refused, takeMark, begin, attempt, settle, fitStep, beginStores, stepStores, Find, found, lost, seen, scan, backTo, fitBack}
+use Rattle.rules.specs.Calls.{Reply, done, refused, takeMark, begin, attempt, settle, fitStep, beginStores, stepStores, Find, found, lost, further, seen, scan, backTo, fitBack}
 use Rattle.rules.specs.Demands.{Bytes, Good}
 use Rattle.rules.proofs.Stores.{memOf, Made, none, one, makes, used-after}
 use Rattle.rules.proofs.Undo.{note-mark, note-store, bytes-after, undo-lay, rollback}
-use Rattle.rules.proofs.Clear.{keep, clear, length-keep, getD-keep, clear-lay, clear-blanked, blanked-clear, cleared, cleared-pick, cleared-then, perform-clear, exec-clear, undo-clear}
+use Rattle.rules.proofs.Kept.{Held, by-test, Holds, attempt-holds}
+use Rattle.rules.proofs.Clear.{keep, clear, clearS, cleared, getD-keep, clear-blanked, blanked-clear, attempt-clear, undo-clear}
 
--- ---- the address stays one of 16 bits: by induction on the rule
+-- ---- the address stays one of 16 bits
 
-abbrev In16 : {A : Type 0} → Out A → Type 0
-In16 (got a pc m) = pc < 65536
-In16 (stopped n m) = Unit {0}
+abbrev In16 : State → Type 0
+In16 s = s .pc < 65536
 
-in16-pick : {A : Type 0} (c : Bool) (x y : Out A) → In16 x → In16 y → In16 (pick c x y)
-in16-pick true x y h k = h
-in16-pick false x y h k = k
+abbrev Any : ℕ → Type 0
+Any n = Unit {0}
 
-in16-then : {A B : Type 0} (o : Out A) (g : A → ℕ → Mem → Out B) → In16 o → ((a : A) (pc : ℕ) (m : Mem) → pc < 65536 → In16 (g a pc m)) → In16 (then o g)
-in16-then (got a pc m) g h k = k a pc m h
-in16-then (stopped n m) g h k = tt
-
-in16-perform : (q : Act) (i : List ℕ) (pc : ℕ) (m : Mem) → pc < 65536 → In16 (perform q i pc m)
+in16-act : (q : Act) (s : State) → In16 s → Held In16 Any (perform q (s .pc) (s .mem))
 unfolding perform
-in16-perform next i pc m h = in16-pick (ltb pc (length i)) (got (getD i pc 0) (onward pc) m) (stopped (number offGrom) m) (omega arith) tt
-in16-perform (grom a) i pc m h = in16-pick (ltb a (length i)) (got (getD i a 0) pc m) (stopped (number offGrom) m) h tt
-in16-perform ask i pc m h = h
-in16-perform (jump a) i pc m h = mod-lt a (lit< tt)
-in16-perform (load k a) i pc m h = in16-pick (ltb a (reach k)) (got (getD (cells k m) a 0) pc m) (stopped (number (outside k)) m) h tt
-in16-perform (store k a b) i pc m h =
-    let x : Out ℕ = got 0 pc (make (storeOf k a (b % 256) m) m) in
-    in16-pick (ltb a (reach k)) (pick (room m) x (stopped (number noRoom) m)) (stopped (number (outside k)) m) (in16-pick (room m) x (stopped (number noRoom) m) h tt) tt
+in16-act next s h = by-test In16 Any (ltb (s .pc) (length (s .mem .image))) _ _ (omega arith) tt
+in16-act (grom a) s h = by-test In16 Any (ltb a (length (s .mem .image))) _ _ h tt
+in16-act ask s h = h
+in16-act (jump a) s h = mod-lt a (lit< tt)
+in16-act (load k a) s h = by-test In16 Any (ltb a (reach k)) _ _ h tt
+in16-act (store k a b) s h = by-test In16 Any (ltb a (reach k)) _ _ (by-test In16 Any (room (s .mem)) _ _ h tt) tt
 
-in16-exec : {A : Type 0} (r : Rule A) (i : List ℕ) (pc : ℕ) (m : Mem) → pc < 65536 → In16 (exec r i pc m)
-unfolding exec
-in16-exec (give a) i pc m h = h
-in16-exec (refuse why) i pc m h = tt
-in16-exec (act q k) i pc m h = in16-then (perform q i pc m) (λ v. exec (k v) i) (in16-perform q i pc m h) (λ v. in16-exec (k v) i)
+in16-mark : (pc : ℕ) (s : State) → In16 s → Held In16 Any (takeMark pc (s .pc) (s .mem))
+unfolding takeMark
+in16-mark pc s h = by-test In16 Any (room (s .mem)) _ _ h tt
 
-in16-begin : (i : List ℕ) (pc : ℕ) (c : Class) (pc₁ : ℕ) (m : Mem) → pc₁ < 65536 → In16 (begin i pc c pc₁ m)
-unfolding begin takeMark after
-in16-begin i pc (stops why) pc₁ m h = tt
-in16-begin i pc (does t) pc₁ m h =
-    in16-then (takeMark pc pc₁ m) (λ _. exec (ruleOf t) i) (in16-pick (room m) _ (stopped (number noRoom) m) h tt) (λ _. in16-exec (ruleOf t) i)
-
-in16-attempt : (i : List ℕ) (s : State) → s .pc < 65536 → In16 (attempt i s)
-unfolding attempt
-in16-attempt i s h =
-    in16-then (perform next i (s .pc) (s .mem)) (λ op. begin i (s .pc) (classOf op)) (in16-perform next i (s .pc) (s .mem) h)
-    (λ op. in16-begin i (s .pc) (classOf op))
+in16 : Holds In16 Any
+in16 = record { acts = in16-act; marks = in16-mark; refuses = λ why. tt }
 
 -- ---- how an attempt ends: nothing done, or a mark and then stores
 
@@ -70,31 +52,32 @@ pub data Tried (pc : ℕ) (m : Mem) : List Store → Out (Unit {0}) → Type 0 w
   early : {n : ℕ} → Tried pc m [] (stopped n m)
   late : {ss : List Store} {o : Out (Unit {0})} → m .used < length (m .journal) → Made (lay (markWord pc) m) ss (memOf o) → Tried pc m ss o
 
-module _ (i : List ℕ) (pc : ℕ) (m : Mem) where
+module _ (pc : ℕ) (m : Mem) where
   -- what is taken where a word is left, and where none is
   took : ℕ → Bool → Out (Unit {0})
   took pc₁ c = pick c (got tt pc₁ (lay (markWord pc) m)) (stopped (number noRoom) m)
 
-  tried-does : (r : Rule (Unit {0})) (pc₁ : ℕ) (c : Bool) → room m ≡ c
-      → Tried pc m (storesThen (took pc₁ c) (λ _ pc₂ m₂. stores r i pc₂ m₂)) (after i (took pc₁ c) r)
+  tried-does : (r : Deed) (pc₁ : ℕ) (c : Bool) → room m ≡ c
+      → Tried pc m (storesThen (took pc₁ c) (λ _ pc₂ m₂. stores r pc₂ m₂)) (after (took pc₁ c) r)
   unfolding took after
-  tried-does r pc₁ true e = late (ltb-true _ _ e) (makes r i pc₁ (lay (markWord pc) m))
+  tried-does r pc₁ true e = late (ltb-true _ _ e) (makes r pc₁ (lay (markWord pc) m))
   tried-does r pc₁ false e = early
 
-  pub tried-begin : (c : Class) (pc₁ : ℕ) → Tried pc m (beginStores i pc c pc₁ m) (begin i pc c pc₁ m)
+  pub tried-begin : (c : Class) (pc₁ : ℕ) → Tried pc m (beginStores pc c pc₁ m) (begin pc c pc₁ m)
   unfolding begin beginStores takeMark took
   tried-begin (stops why) pc₁ = early
   tried-begin (does t) pc₁ = tried-does (ruleOf t) pc₁ _ refl
 
   tried-next : (c : Bool)
-      → Tried pc m (storesThen (pick c (got (getD i pc 0) (onward pc) m) (stopped (number offGrom) m)) (λ op pc₁ m₁. beginStores i pc (classOf op) pc₁ m₁))
-      (then (pick c (got (getD i pc 0) (onward pc) m) (stopped (number offGrom) m)) (λ op pc₁ m₁. begin i pc (classOf op) pc₁ m₁))
-  tried-next true = tried-begin (classOf (getD i pc 0)) (onward pc)
+      → Tried pc m (storesThen (pick c (got (getD (m .image) pc 0) (onward pc) m) (stopped (number offGrom) m))
+      (λ op pc₁ m₁. beginStores pc (classOf op) pc₁ m₁))
+      (then (pick c (got (getD (m .image) pc 0) (onward pc) m) (stopped (number offGrom) m)) (λ op pc₁ m₁. begin pc (classOf op) pc₁ m₁))
+  tried-next true = tried-begin (classOf (getD (m .image) pc 0)) (onward pc)
   tried-next false = early
 
-  pub tried : Tried pc m (stepStores i (state pc m)) (attempt i (state pc m))
+  pub tried : Tried pc m (stepStores (state pc m)) (attempt (state pc m))
   unfolding attempt stepStores perform
-  tried = tried-next (ltb pc (length i))
+  tried = tried-next (ltb pc (length (m .image)))
 
 -- ---- what a step leaves
 
@@ -113,13 +96,13 @@ abbrev pub Settled : State → List Store → Reply → Type 0
 Settled s ss (done t) = Stepped s ss t
 Settled s ss (refused n t) = Unchanged s t
 
-settle-is : (s : State) (ss : List Store) (o : Out (Unit {0})) → Good s → Tried (s .pc) (s .mem) ss o → In16 o → Settled s ss (settle s o)
+settle-is : (s : State) (ss : List Store) (o : Out (Unit {0})) → Good s → Tried (s .pc) (s .mem) ss o → Held In16 Any o → Settled s ss (settle s o)
 settle-is s ss (got a pc₁ m₁) g (late h t) k = record { word-left = h; makes = t; good = record { address = k; bytes = bytes-after t (g .bytes) } }
 settle-is s ss (stopped n m₁) g t k = record { taken = m₁ .used - s .mem .used; same = refl }
 
-pub settled : (i : List ℕ) (s : State) → Good s → Settled s (stepStores i s) (fitStep i s)
+pub settled : (s : State) → Good s → Settled s (stepStores s) (fitStep s)
 unfolding fitStep
-settled i s g = settle-is s (stepStores i s) (attempt i s) g (tried i (s .pc) (s .mem)) (in16-attempt i s (g .address))
+settled s g = settle-is s (stepStores s) (attempt s) g (tried (s .pc) (s .mem)) (attempt-holds in16 s (g .address))
 
 -- the mark and the stores, undone word by word
 pub undo-step : {pc : ℕ} (m : Mem) {m′ : Mem} {ss : List Store} → pc < 65536 → Bytes m → m .used < length (m .journal) → Made (lay (markWord pc) m) ss m′
@@ -150,6 +133,13 @@ scan-lay u w j h =
     ap₂ (λ (x : ℕ) (f : Find). seen (note x) f) (getD-set-same j u w 0 h)
     (scan-same u (set j u w) j (λ n k. getD-set-other j u n w 0 (omega arith)))
 
+-- a sound word: of a store it is passed over, and a mark is found
+seen-store : (k : Kind) (a b : ℕ) (f : Find) → a < reach k → seen (stood k a b) f ≡ further f
+seen-store k a b f h = rw (lt-ltb a (reach k) h)
+
+seen-mark : (pc : ℕ) (f : Find) → pc < 65536 → seen (mark pc) f ≡ found 1 pc
+seen-mark pc f h = rw (lt-ltb pc 65536 h)
+
 -- stores on top of a mark leave it the newest
 scan-made : {m m′ : Mem} {ss : List Store} (n pc : ℕ) → Bytes m → Made m ss m′ → scan (m .used) (m .journal) ≡ found n pc
     → scan (m′ .used) (m′ .journal) ≡ found (n + length ss) pc
@@ -159,7 +149,8 @@ scan-made n pc b none e =
 scan-made {m} n pc b (one {s} {ss} h t) e =
     let z : suc n + length ss ≡ n + suc (length ss) = omega arith in
     scan-made (suc n) pc (bytes-after (one h none) b) t
-    (scan-lay (m .used) (wordOf s) (m .journal) (h .word-left) ∙ ap₂ seen (note-store s m h b) e)
+    (scan-lay (m .used) (wordOf s) (m .journal) (h .word-left) ∙ ap₂ seen (note-store s m h b) e
+    ∙ seen-store (s .kind) (s .at) (s .old) (found n pc) (h .inside))
     ∙ ap (λ (k : ℕ). found k pc) z
 
 -- a step that was done is taken back
@@ -169,16 +160,14 @@ back-step {s} {t} {ss} g h =
     let z : 1 + length ss ≡ suc (length ss) = omega arith in
     let u : ℕ = s .mem .used in
     let w : ℕ = markWord (s .pc) in
+    let older : Find = scan u (s .mem .journal) in
     let newest : scan (suc u) (set (s .mem .journal) u w) ≡ found 1 (s .pc) =
-    scan-lay u w (s .mem .journal) (h .word-left) ∙ ap (λ (x : Note). seen x (scan u (s .mem .journal))) (note-mark (s .pc) (g .address)) in
+    scan-lay u w (s .mem .journal) (h .word-left) ∙ ap (λ (x : Note). seen x older) (note-mark (s .pc) (g .address)) ∙ seen-mark (s .pc) older (g .address) in
     let e : scan (t .mem .used) (t .mem .journal) ≡ found (1 + length ss) (s .pc) = scan-made 1 (s .pc) (g .bytes) (h .makes) newest in
     ap (λ (f : Find). backTo f t) (e ∙ ap (λ (k : ℕ). found k (s .pc)) z)
     ∙ ap (λ (m : Mem). done (state (s .pc) m)) (undo-step (s .mem) (g .address) (g .bytes) (h .word-left) (h .makes))
 
 -- ---- the journal above the used words plays no part
-
-abbrev pub clearS : State → State
-clearS s = state (s .pc) (clear (s .mem))
 
 abbrev pub clearR : Reply → Reply
 clearR (done s) = done (clearS s)
@@ -190,26 +179,9 @@ settle-clear s (stopped n m) =
     let taken : ℕ = m .used - s .mem .used in
     ap (λ (x : Mem). refused n (state (s .pc) x)) (clear-blanked taken (s .mem) ∙ sym (blanked-clear taken (s .mem)))
 
-takeMark-clear : (pc pc₁ : ℕ) (m : Mem) → cleared (takeMark pc pc₁ m) ≡ takeMark pc pc₁ (clear m)
-unfolding takeMark
-takeMark-clear pc pc₁ m =
-    cleared-pick (room m) (got tt pc₁ (lay (markWord pc) m)) (stopped (number noRoom) m)
-    ∙ rw (clear-lay (markWord pc) m, length-keep (m .used) (m .journal))
-
-begin-clear : (i : List ℕ) (pc : ℕ) (c : Class) (pc₁ : ℕ) (m : Mem) → cleared (begin i pc c pc₁ m) ≡ begin i pc c pc₁ (clear m)
-unfolding begin after
-begin-clear i pc (stops why) pc₁ m = refl
-begin-clear i pc (does t) pc₁ m =
-    cleared-then (takeMark pc pc₁ m) (λ _. exec (ruleOf t) i) (λ _. exec (ruleOf t) i) (λ _. exec-clear (ruleOf t) i)
-    ∙ ap (λ (o : Out (Unit {0})). then o (λ _ pc₂ m₂. exec (ruleOf t) i pc₂ m₂)) (takeMark-clear pc pc₁ m)
-
-pub step-clear : (i : List ℕ) (s : State) → clearR (fitStep i s) ≡ fitStep i (clearS s)
-unfolding fitStep attempt
-step-clear i s =
-    settle-clear s (attempt i s)
-    ∙ ap (settle (clearS s))
-    (cleared-then (perform next i (s .pc) (s .mem)) (λ op. begin i (s .pc) (classOf op)) (λ op. begin i (s .pc) (classOf op)) (λ op. begin-clear i (s .pc) (classOf op))
-    ∙ ap (λ (o : Out ℕ). then o (λ op pc₁ m₁. begin i (s .pc) (classOf op) pc₁ m₁)) (perform-clear next i (s .pc) (s .mem)))
+pub step-clear : (s : State) → clearR (fitStep s) ≡ fitStep (clearS s)
+unfolding fitStep
+step-clear s = settle-clear s (attempt s) ∙ ap (settle (clearS s)) (sym (attempt-clear s))
 
 backTo-clear : (f : Find) (s : State) → clearR (backTo f s) ≡ backTo f (clearS s)
 backTo-clear (found n pc) s = ap (λ (x : Mem). done (state pc x)) (undo-clear n (s .mem))

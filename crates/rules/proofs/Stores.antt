@@ -6,7 +6,7 @@ use Prim.Native.Nat.{ℕ, zero, _+_, _%_, _≤_, _<_}
 use native.Mathlib.Nat.{mod-lt}
 use native.Mathlib.Omega.{arith}
 use lib.Dec.{ltb, lit<}
-use lib.ListN.{length, getD, take, length-set}
+use lib.ListN.{length, getD, set, take, length-set}
 use lib.Seq.{sets, take-suc-set, append-snoc}
 use borrow.Author.Tests.{ltb-true}
 use Rattle.rules.specs.Machine.{pick, Kind, cpu, vdp, register, reach, Mem, cells, put}
@@ -50,28 +50,46 @@ made-store k a b pc m true e false f = none
 made-store k a b pc m false e true f = none
 made-store k a b pc m false e false f = none
 
-made-act : (q : Act) (i : List ℕ) (pc : ℕ) (m : Mem) → Made m (actStores q m) (memOf (perform q i pc m))
+made-act : (q : Act) (pc : ℕ) (m : Mem) → Made m (actStores q m) (memOf (perform q pc m))
 unfolding perform actStores
-made-act next i pc m = made-look (ltb pc (length i)) _ _ _ m
-made-act (grom a) i pc m = made-look (ltb a (length i)) _ _ _ m
-made-act ask i pc m = none
-made-act (jump a) i pc m = none
-made-act (load k a) i pc m = made-look (ltb a (reach k)) _ _ _ m
-made-act (store k a b) i pc m = made-store k a b pc m _ refl _ refl
+made-act next pc m = made-look (ltb pc (length (m .image))) _ _ _ m
+made-act (grom a) pc m = made-look (ltb a (length (m .image))) _ _ _ m
+made-act ask pc m = none
+made-act (jump a) pc m = none
+made-act (load k a) pc m = made-look (ltb a (reach k)) _ _ _ m
+made-act (store k a b) pc m = made-store k a b pc m _ refl _ refl
 
 made-then : {A B : Type 0} (o : Out A) (f : A → ℕ → Mem → List Store) (g : A → ℕ → Mem → Out B)
     → ((a : A) (pc : ℕ) (m : Mem) → Made m (f a pc m) (memOf (g a pc m))) → Made (memOf o) (storesThen o f) (memOf (then o g))
 made-then (got a pc m) f g h = h a pc m
 made-then (stopped n m) f g h = none
 
-pub makes : {A : Type 0} (r : Rule A) (i : List ℕ) (pc : ℕ) (m : Mem) → Made m (stores r i pc m) (memOf (exec r i pc m))
+pub makes : {A : Type 0} (r : Rule A) (pc : ℕ) (m : Mem) → Made m (stores r pc m) (memOf (exec r pc m))
 unfolding exec stores
-makes (give a) i pc m = none
-makes (refuse why) i pc m = none
-makes (act q k) i pc m =
-    made-append (made-act q i pc m) (made-then (perform q i pc m) (λ v. stores (k v) i) (λ v. exec (k v) i) (λ v. makes (k v) i))
+makes (give a) pc m = none
+makes (refuse why) pc m = none
+makes (act q k) pc m =
+    made-append (made-act q pc m) (made-then (perform q pc m) (λ v. stores (k v)) (λ v. exec (k v)) (λ v. makes (k v)))
 
 -- ---- what a list of stores leaves
+
+-- a memory that a byte is put into has one cell set, and the others stay
+pub put-cells : (P : List ℕ → List ℕ → Type 0) → ((x : List ℕ) → P x x) → (a b : ℕ) → ((x : List ℕ) → P (set x a b) x)
+    → (k l : Kind) (m : Mem) → P (cells k (put l a b m)) (cells k m)
+put-cells P same a b put cpu cpu m = put (m .pad)
+put-cells P same a b put cpu vdp m = same (m .pad)
+put-cells P same a b put cpu register m = same (m .pad)
+put-cells P same a b put vdp cpu m = same (m .vram)
+put-cells P same a b put vdp vdp m = put (m .vram)
+put-cells P same a b put vdp register m = same (m .vram)
+put-cells P same a b put register cpu m = same (m .regs)
+put-cells P same a b put register vdp m = same (m .regs)
+put-cells P same a b put register register m = put (m .regs)
+
+-- the image stays
+pub image-after : {m m′ : Mem} {ss : List Store} → Made m ss m′ → m′ .image ≡ m .image
+image-after none = refl
+image-after (one h t) = image-after t
 
 -- used: one word more for each
 pub used-after : {m m′ : Mem} {ss : List Store} → Made m ss m′ → m′ .used ≡ m .used + length ss
@@ -106,15 +124,7 @@ cells-after {m} k (one {s} {ss} h t) =
 
 -- the lengths: none changes
 length-put : (k l : Kind) (a b : ℕ) (m : Mem) → length (cells k (put l a b m)) ≡ length (cells k m)
-length-put cpu cpu a b m = length-set (m .pad) a b
-length-put cpu vdp a b m = refl
-length-put cpu register a b m = refl
-length-put vdp cpu a b m = refl
-length-put vdp vdp a b m = length-set (m .vram) a b
-length-put vdp register a b m = refl
-length-put register cpu a b m = refl
-length-put register vdp a b m = refl
-length-put register register a b m = length-set (m .regs) a b
+length-put k l a b m = put-cells (λ x y. length x ≡ length y) (λ x. refl) a b (λ x. length-set x a b) k l m
 
 pub lengths-after : {m m′ : Mem} {ss : List Store} (k : Kind) → Made m ss m′ → length (cells k m′) ≡ length (cells k m)
 lengths-after k none = refl
@@ -133,12 +143,12 @@ used-fits {m} (one {s} k t) h = used-fits t (rw (length-set (m .journal) (m .use
 
 -- Whether a rule is done or refused: the memories are those before with its stores applied, the used count has grown by their number,
 -- and the journal has their words from there on and is otherwise untouched.
-pub record Leaves {A : Type 0} (r : Rule A) (i : List ℕ) (pc : ℕ) (m : Mem) : Type 0 where
-  pub memories : (k : Kind) → cells k (memOf (exec r i pc m)) ≡ cells k (putAll (stores r i pc m) m)
-  pub used : memOf (exec r i pc m) .used ≡ m .used + length (stores r i pc m)
-  pub journal : memOf (exec r i pc m) .journal ≡ sets (m .journal) (m .used) (map wordOf (stores r i pc m))
+pub record Leaves {A : Type 0} (r : Rule A) (pc : ℕ) (m : Mem) : Type 0 where
+  pub memories : (k : Kind) → cells k (memOf (exec r pc m)) ≡ cells k (putAll (stores r pc m) m)
+  pub used : memOf (exec r pc m) .used ≡ m .used + length (stores r pc m)
+  pub journal : memOf (exec r pc m) .journal ≡ sets (m .journal) (m .used) (map wordOf (stores r pc m))
 
-pub leaves : {A : Type 0} (r : Rule A) (i : List ℕ) (pc : ℕ) (m : Mem) → Leaves r i pc m
-leaves r i pc m =
-    let h : Made m (stores r i pc m) (memOf (exec r i pc m)) = makes r i pc m in
+pub leaves : {A : Type 0} (r : Rule A) (pc : ℕ) (m : Mem) → Leaves r pc m
+leaves r pc m =
+    let h : Made m (stores r pc m) (memOf (exec r pc m)) = makes r pc m in
     record { memories = λ k. cells-after k h; used = used-after h; journal = journal-after h }

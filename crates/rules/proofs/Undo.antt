@@ -9,12 +9,11 @@ use native.Mathlib.Decide.{ℕ-discrete}
 use lib.Dec.{lit≤}
 use lib.ListN.{length, getD, set, length-set}
 use lib.Seq.{set-set, set-getD, set-comm, getD-set-same, getD-set-other}
-use borrow.Author.Tests.{lt-ltb}
 use Rattle.rules.specs.Machine.{Kind, cpu, vdp, register, reach, Mem, mem, cells, put, beside}
-use Rattle.rules.specs.Journal.{kindNumber, word, markWord, lay, Store, wordOf, make, Note, stood, mark, unsound, stoodIn, noteOf, note, restore, zeroTop, undoTop, undo, blank, blanked}
+use Rattle.rules.specs.Journal.{kindNumber, word, markWord, lay, Store, wordOf, make, Note, stood, mark, nothing, stoodIn, noteOf, note, restore, zeroTop, undoTop, undo, blank, blanked}
 use Rattle.rules.specs.Rules.{Rule, exec, stores}
 use Rattle.rules.specs.Demands.{Bytes}
-use Rattle.rules.proofs.Stores.{memOf, Sound, Made, none, one, makes, used-after}
+use Rattle.rules.proofs.Stores.{memOf, Sound, Made, none, one, makes, put-cells, used-after}
 
 -- ---- a word is read back as it was laid
 
@@ -28,9 +27,6 @@ noteOf-kind cpu low = refl
 noteOf-kind vdp low = refl
 noteOf-kind register low = refl
 
-pub stoodIn-is : (k : Kind) (low a b : ℕ) → low / 256 ≡ a → low % 256 ≡ b → a < reach k → stoodIn k low ≡ stood k a b
-stoodIn-is k low a b e f h = rw (e, f, lt-ltb a (reach k) h)
-
 pub note-word : (k : Kind) (a b : ℕ) → a < reach k → b < 256 → note (word k a b) ≡ stood k a b
 unfolding note word
 note-word k a b h l =
@@ -39,14 +35,14 @@ note-word k a b h l =
     let low : (kindNumber k * 2 ^ 30 + a * 256 + b) % 2 ^ 30 ≡ a * 256 + b = omega arith in
     let x : (a * 256 + b) / 256 ≡ a = omega arith in
     let y : (a * 256 + b) % 256 ≡ b = omega arith in
-    ap₂ noteOf top low ∙ noteOf-kind k (a * 256 + b) ∙ stoodIn-is k (a * 256 + b) a b x y h
+    ap₂ noteOf top low ∙ noteOf-kind k (a * 256 + b) ∙ ap₂ (stood k) x y
 
 pub note-mark : (pc : ℕ) → pc < 65536 → note (markWord pc) ≡ mark pc
 unfolding note markWord
 note-mark pc h =
     let top : (3 * 2 ^ 30 + pc) / 2 ^ 30 ≡ 3 = omega arith in
     let low : (3 * 2 ^ 30 + pc) % 2 ^ 30 ≡ pc = omega arith in
-    rw (top, low, lt-ltb pc 65536 h)
+    rw (top, low)
 
 -- ---- bytes stay bytes
 
@@ -58,15 +54,8 @@ bytes-set (x ∷ xs) (suc j) b h l zero = h zero
 bytes-set (x ∷ xs) (suc j) b h l (suc i) = bytes-set xs j b (λ n. h (suc n)) l i
 
 bytes-put : (l : Kind) (a b : ℕ) (m : Mem) → b < 256 → Bytes m → Bytes (put l a b m)
-bytes-put cpu a b m l h cpu = bytes-set (m .pad) a b (h cpu) l
-bytes-put cpu a b m l h vdp = h vdp
-bytes-put cpu a b m l h register = h register
-bytes-put vdp a b m l h cpu = h cpu
-bytes-put vdp a b m l h vdp = bytes-set (m .vram) a b (h vdp) l
-bytes-put vdp a b m l h register = h register
-bytes-put register a b m l h cpu = h cpu
-bytes-put register a b m l h vdp = h vdp
-bytes-put register a b m l h register = bytes-set (m .regs) a b (h register) l
+bytes-put l a b m x h k n =
+    put-cells (λ y z. ((i : ℕ) → getD z i 0 < 256) → (i : ℕ) → getD y i 0 < 256) (λ y p. p) a b (λ y p. bytes-set y a b p x) k l m (h k) n
 
 bytes-make : (s : Store) (m : Mem) → Sound s m → Bytes m → Bytes (make s m)
 bytes-make s m h b = bytes-put (s .kind) (s .at) (s .new) m (h .byte) b
@@ -127,14 +116,14 @@ set-blank (suc n) i l j w z h =
 -- ---- the rollback: from the top word down, each word's cell gets back what stood there
 
 put-back : (k : Kind) (a b : ℕ) (m : Mem) → put k a (getD (cells k m) a 0) (put k a b m) ≡ m
-put-back cpu a b m = ap (λ (l : List ℕ). mem l (m .vram) (m .regs) (m .journal) (m .used)) (set-set (m .pad) a b _ ∙ set-getD (m .pad) a 0)
-put-back vdp a b m = ap (λ (l : List ℕ). mem (m .pad) l (m .regs) (m .journal) (m .used)) (set-set (m .vram) a b _ ∙ set-getD (m .vram) a 0)
-put-back register a b m = ap (λ (l : List ℕ). mem (m .pad) (m .vram) l (m .journal) (m .used)) (set-set (m .regs) a b _ ∙ set-getD (m .regs) a 0)
+put-back cpu a b m = ap (λ (l : List ℕ). mem (m .image) l (m .vram) (m .regs) (m .journal) (m .used)) (set-set (m .pad) a b _ ∙ set-getD (m .pad) a 0)
+put-back vdp a b m = ap (λ (l : List ℕ). mem (m .image) (m .pad) l (m .regs) (m .journal) (m .used)) (set-set (m .vram) a b _ ∙ set-getD (m .vram) a 0)
+put-back register a b m = ap (λ (l : List ℕ). mem (m .image) (m .pad) (m .vram) l (m .journal) (m .used)) (set-set (m .regs) a b _ ∙ set-getD (m .regs) a 0)
 
 pub restore-beside : (x : Note) (j : List ℕ) (u : ℕ) (m : Mem) → restore x (beside j u m) ≡ beside j u (restore x m)
 restore-beside (stood k a b) j u m = refl
 restore-beside (mark pc) j u m = refl
-restore-beside unsound j u m = refl
+restore-beside nothing j u m = refl
 
 -- a word laid on top, with n blank words above it: it is read and taken off
 pub undo-lay : (n w : ℕ) (x : Note) (m : Mem) → note w ≡ x → m .used < length (m .journal)
@@ -162,9 +151,9 @@ rollback {m} b (one {s} {ss} h t) =
     ap (λ (x : Mem). undoTop (x .used) x) (rollback (bytes-make s m h b) t) ∙ undo-make (length ss) s m b h
 
 -- a rule taken back, whether it was done or refused: all as before, and the words that it took are 0
-pub rollback-rule : {A : Type 0} (r : Rule A) (i : List ℕ) (pc : ℕ) (m : Mem) → Bytes m
-    → undo (memOf (exec r i pc m) .used - m .used) (memOf (exec r i pc m)) ≡ blanked (memOf (exec r i pc m) .used - m .used) m
-rollback-rule r i pc m b =
-    let n : ℕ = length (stores r i pc m) in
-    let e : memOf (exec r i pc m) .used - m .used ≡ n = omega (arith, used-after (makes r i pc m)) in
-    rw e (rollback b (makes r i pc m))
+pub rollback-rule : {A : Type 0} (r : Rule A) (pc : ℕ) (m : Mem) → Bytes m
+    → undo (memOf (exec r pc m) .used - m .used) (memOf (exec r pc m)) ≡ blanked (memOf (exec r pc m) .used - m .used) m
+rollback-rule r pc m b =
+    let n : ℕ = length (stores r pc m) in
+    let e : memOf (exec r pc m) .used - m .used ≡ n = omega (arith, used-after (makes r pc m)) in
+    rw e (rollback b (makes r pc m))

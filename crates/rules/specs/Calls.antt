@@ -6,7 +6,7 @@ use lib.Dec.{leb, eqb}
 use lib.ListN.{length, getD, take, drop}
 use Rattle.rules.specs.Machine.{pick, _also_, Kind, cpu, vdp, register, size, reach, group, Mem, State, state}
 use Rattle.rules.specs.Answers.{number, noRoom, wrongLength, noRecord}
-use Rattle.rules.specs.Journal.{markWord, lay, Store, Note, stood, mark, unsound, note, undo, blanked}
+use Rattle.rules.specs.Journal.{markWord, lay, Store, Note, stood, mark, nothing, note, sound, undo, blanked}
 use Rattle.rules.specs.Rules.{Out, got, stopped, then, after, room, next, perform, stores, storesThen}
 use Rattle.rules.specs.Opcodes.{Class, stops, does, classOf}
 use Rattle.rules.specs.Tasks.{ruleOf}
@@ -21,11 +21,13 @@ imageFits n = eqb (n % group) 0 also leb group n also leb n (8 * group)
 unfoldable pub partsFit : ℕ → ℕ → ℕ → ℕ → ℕ → Bool
 partsFit p v r j u = eqb p (size cpu) also eqb v (size vdp) also eqb r (size register) also leb j 1048576 also leb u j
 
+-- of a step back, which is lent no image
 abbrev pub memFits : Mem → Bool
 memFits m = partsFit (length (m .pad)) (length (m .vram)) (length (m .regs)) (length (m .journal)) (m .used)
 
-abbrev pub fits : List ℕ → State → Bool
-fits i s = imageFits (length i) also memFits (s .mem)
+-- of every other call
+abbrev pub fits : Mem → Bool
+fits m = imageFits (length (m .image)) also memFits m
 
 -- ---- a step
 
@@ -47,12 +49,12 @@ unfoldable pub takeMark : ℕ → ℕ → Mem → Out (Unit {0})
 takeMark pc pc₁ m = pick (room m) (got tt pc₁ (lay (markWord pc) m)) (stopped (number noRoom) m)
 
 -- "A step takes a mark word first, for every opcode that 2, 3 and 1 don't stop."
-unfoldable pub begin : List ℕ → ℕ → Class → ℕ → Mem → Out (Unit {0})
-begin i pc (stops why) pc₁ m = stopped (number why) m
-begin i pc (does t) pc₁ m = after i (takeMark pc pc₁ m) (ruleOf t)
+unfoldable pub begin : ℕ → Class → ℕ → Mem → Out (Unit {0})
+begin pc (stops why) pc₁ m = stopped (number why) m
+begin pc (does t) pc₁ m = after (takeMark pc pc₁ m) (ruleOf t)
 
-unfoldable pub attempt : List ℕ → State → Out (Unit {0})
-attempt i s = then (perform next i (s .pc) (s .mem)) (λ op pc₁ m. begin i (s .pc) (classOf op) pc₁ m)
+unfoldable pub attempt : State → Out (Unit {0})
+attempt s = then (perform next (s .pc) (s .mem)) (λ op pc₁ m. begin (s .pc) (classOf op) pc₁ m)
 
 -- "A refused step puts all back; the journal words it had taken become 0."
 abbrev pub settle : State → Out (Unit {0}) → Reply
@@ -60,26 +62,26 @@ settle s (got a pc₁ m) = done (state pc₁ m)
 settle s (stopped n m) = refused n (state (s .pc) (blanked (m .used - s .mem .used) (s .mem)))
 
 -- a step of a machine whose parts fit
-unfoldable pub fitStep : List ℕ → State → Reply
-fitStep i s = settle s (attempt i s)
+unfoldable pub fitStep : State → Reply
+fitStep s = settle s (attempt s)
 
 -- "Answer 11 is tested first and touches nothing."
-unfoldable pub step : List ℕ → State → Reply
-step i s = pick (fits i s) (fitStep i s) (refused (number wrongLength) s)
+unfoldable pub step : State → Reply
+step s = pick (fits (s .mem)) (fitStep s) (refused (number wrongLength) s)
 
 -- ---- its stores: "the number of byte stores those steps made"
 
-unfoldable pub beginStores : List ℕ → ℕ → Class → ℕ → Mem → List Store
-beginStores i pc (stops why) pc₁ m = []
-beginStores i pc (does t) pc₁ m = storesThen (takeMark pc pc₁ m) (λ _ pc₂ m₂. stores (ruleOf t) i pc₂ m₂)
+unfoldable pub beginStores : ℕ → Class → ℕ → Mem → List Store
+beginStores pc (stops why) pc₁ m = []
+beginStores pc (does t) pc₁ m = storesThen (takeMark pc pc₁ m) (λ _ pc₂ m₂. stores (ruleOf t) pc₂ m₂)
 
-unfoldable pub stepStores : List ℕ → State → List Store
-stepStores i s = storesThen (perform next i (s .pc) (s .mem)) (λ op pc₁ m. beginStores i (s .pc) (classOf op) pc₁ m)
+unfoldable pub stepStores : State → List Store
+stepStores s = storesThen (perform next (s .pc) (s .mem)) (λ op pc₁ m. beginStores (s .pc) (classOf op) pc₁ m)
 
 -- those of a step that was done; a refused one has made none
-abbrev pub made : List ℕ → State → Reply → ℕ
-made i s (done t) = length (stepStores i s)
-made i s (refused n t) = 0
+abbrev pub made : State → Reply → ℕ
+made s (done t) = length (stepStores s)
+made s (refused n t) = 0
 
 -- ---- a run
 
@@ -99,13 +101,13 @@ onto (done t) n r = report (r .answer) (suc (r .steps)) (n + r .stores) (r .end)
 onto (refused a t) n r = report a 0 0 t
 
 -- "up to n .. steps"
-unfoldable pub steps : ℕ → List ℕ → State → Report
-steps zero i s = report 0 0 0 s
-steps (suc n) i s = onto (step i s) (length (stepStores i s)) (steps n i (left (step i s)))
+unfoldable pub steps : ℕ → State → Report
+steps zero s = report 0 0 0 s
+steps (suc n) s = onto (step s) (length (stepStores s)) (steps n (left (step s)))
 
 -- "n = 0 answers 0 after test 11."
-unfoldable pub run : ℕ → List ℕ → State → Report
-run n i s = pick (fits i s) (steps n i s) (report (number wrongLength) 0 0 s)
+unfoldable pub run : ℕ → State → Report
+run n s = pick (fits (s .mem)) (steps n s) (report (number wrongLength) 0 0 s)
 
 -- ---- a step back
 
@@ -119,10 +121,15 @@ abbrev pub further : Find → Find
 further (found n pc) = found (suc n) pc
 further lost = lost
 
+-- by what a sound word says
+abbrev pub passed : Note → Find → Find
+passed (stood k a b) f = further f
+passed (mark pc) f = found 1 pc
+passed nothing f = lost
+
+-- an unsound one ends the search
 abbrev pub seen : Note → Find → Find
-seen (stood k a b) f = further f
-seen (mark pc) f = found 1 pc
-seen unsound f = lost
+seen x f = pick (sound x) (passed x f) lost
 
 -- "no mark lies below the used count, or a word of that record names no cell": then nothing is found. "Setting used to 0 forgets."
 unfoldable pub scan : ℕ → List ℕ → Find

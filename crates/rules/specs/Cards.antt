@@ -66,8 +66,10 @@ allHold [] m = true
 allHold (h ∷ hs) m = eqb (getD (cells (h .kind) m) (h .at) 0) (h .byte) also allHold hs m
 
 -- "Code at 0, other cells 0, >73 = >7E unless said": an image of one group, and a journal of 1,024 words
-abbrev pub bench : Mem
-bench = put cpu subPointer 0x7E (mem (replicate (size cpu) 0) (replicate (size vdp) 0) (replicate (size register) 0) (replicate 1024 0) 0)
+abbrev pub bench : List Code → Mem
+bench codes =
+    put cpu subPointer 0x7E (mem (burnt codes (replicate group 0)) (replicate (size cpu) 0) (replicate (size vdp) 0) (replicate (size register) 0)
+    (replicate 1024 0) 0)
 
 abbrev pub comesOut : Case → Report → Bool
 comesOut c r =
@@ -75,7 +77,7 @@ comesOut c r =
     also eqb (r .end .pc) (c .pc) also allHold (c .left) (r .end .mem)
 
 unfoldable pub passes : Case → Bool
-passes c = comesOut c (run (c .run) (burnt (c .image) (replicate group 0)) (state (c .from) (poured (c .given) bench)))
+passes c = comesOut c (run (c .run) (state (c .from) (poured (c .given) (bench (c .image)))))
 
 unfoldable pub everyPasses : List Case → Bool
 everyPasses [] = true

@@ -2,8 +2,8 @@
 use mathlib.Core.Path.{_≡_}
 use mathlib.Core.Bool.{true}
 use mathlib.Core.List.{List, [], _∷_, _++_, map}
-use Prim.Native.Nat.{ℕ, suc, _+_, _-_, _<_}
-use lib.ListN.{length, getD, take, replicate}
+use Prim.Native.Nat.{ℕ, zero, suc, _+_, _-_, _<_}
+use lib.ListN.{length, getD, take}
 use Rattle.rules.specs.Machine.{pick, Kind, Mem, State, cells}
 use Rattle.rules.specs.Answers.{Why, number}
 use Rattle.rules.specs.Journal.{markWord, wordOf, blank}
@@ -42,38 +42,37 @@ usedOf (got a pc m) = m .used
 usedOf (stopped n m) = m .used
 
 -- "the journal words that it had begun to use": none where test 11 fails
-abbrev pub begunWords : List ℕ → State → ℕ
-begunWords i s = pick (fits i s) (usedOf (attempt i s) - s .mem .used) 0
+abbrev pub begunWords : State → ℕ
+begunWords s = pick (fits (s .mem)) (usedOf (attempt s) - s .mem .used) 0
 
 -- What is so of the state t that a step of s leaves which is refused with n:
-pub record Demand1 (i : List ℕ) (s : State) (n : ℕ) (t : State) : Type 0 where
+pub record Demand1 (s : State) (n : ℕ) (t : State) : Type 0 where
   pub listed : Listed n
   -- "A refused step returns program address, CPU RAM, VDP RAM and VDP registers to their values before it"
   pub address : t .pc ≡ s .pc
   pub memories : (k : Kind) → cells k (t .mem) ≡ cells k (s .mem)
   pub used : t .mem .used ≡ s .mem .used
   -- "and zeroes only the journal words that it had begun to use"
-  pub words : t .mem .journal ≡ blank (begunWords i s) (s .mem .used) (s .mem .journal)
+  pub words : t .mem .journal ≡ blank (begunWords s) (s .mem .used) (s .mem .journal)
 
 -- ---- demand 2
 
 -- What is so of the state t that an accepted step of s leaves, and of the number n of its stores: "those that 01's rules give"
-pub record Demand2 (i : List ℕ) (s t : State) (n : ℕ) : Type 0 where
-  pub fit : fits i s ≡ true
-  pub left : attempt i s ≡ got tt (t .pc) (t .mem)
-  pub count : n ≡ length (stepStores i s)
+pub record Demand2 (s t : State) (n : ℕ) : Type 0 where
+  pub fit : fits (s .mem) ≡ true
+  pub left : attempt s ≡ got tt (t .pc) (t .mem)
+  pub count : n ≡ length (stepStores s)
   -- no invention: the journal has grown by the mark and one word for each store
   pub words : t .mem .used ≡ suc (s .mem .used) + n
 
 -- ---- a sequence of calls
 
--- a step, over whatever image is lent, or a step back
+-- a step, or a step back
 pub data Op : Type 0 where
-  forth : List ℕ → Op
-  aback : Op
+  forth aback : Op
 
 abbrev pub reply : Op → State → Reply
-reply (forth i) s = step i s
+reply forth s = step s
 reply aback s = stepBack s
 
 -- the state that a sequence leaves
@@ -81,62 +80,57 @@ abbrev pub play : List Op → State → State
 play [] s = s
 play (o ∷ os) s = play os (left (reply o s))
 
-abbrev pub rest : {A : Type 0} → List A → List A
-rest [] = []
-rest (x ∷ xs) = xs
+-- the number of accepted steps not taken back: one more after an accepted step, one less after an accepted step-back
+abbrev pub tally : Op → Reply → ℕ → ℕ
+tally forth (done s) n = suc n
+tally forth (refused a s) n = n
+tally aback (done s) n = n - 1
+tally aback (refused a s) n = n
 
--- the accepted steps not taken back, newest first, each by its image: one more after an accepted step, one less after an accepted step-back
-abbrev pub tally : Op → Reply → List (List ℕ) → List (List ℕ)
-tally (forth i) (done s) is = i ∷ is
-tally (forth i) (refused n s) is = is
-tally aback (done s) is = rest is
-tally aback (refused n s) is = is
-
-abbrev pub kept : List Op → State → List (List ℕ) → List (List ℕ)
-kept [] s is = is
-kept (o ∷ os) s is = kept os (left (reply o s)) (tally o (reply o s) is)
+abbrev pub kept : List Op → State → ℕ → ℕ
+kept [] s n = n
+kept (o ∷ os) s n = kept os (left (reply o s)) (tally o (reply o s) n)
 
 -- ---- only steps
 
--- the state that these steps, and nothing else, lead to
-abbrev pub forward : List (List ℕ) → State → State
-forward [] s = s
-forward (i ∷ is) s = left (step i (forward is s))
+-- the state that n steps, and nothing else, lead to
+abbrev pub forward : ℕ → State → State
+forward zero s = s
+forward (suc n) s = left (step (forward n s))
 
 -- each of them is accepted
-abbrev pub AllAccepted : List (List ℕ) → State → Type 0
-AllAccepted [] s = Unit {0}
-AllAccepted (i ∷ is) s = AllAccepted is s × Accepted (step i (forward is s))
+abbrev pub AllAccepted : ℕ → State → Type 0
+AllAccepted zero s = Unit {0}
+AllAccepted (suc n) s = AllAccepted n s × Accepted (step (forward n s))
 
 -- for each, oldest first, its mark and then one word for each store that it made
-abbrev pub records : List (List ℕ) → State → List ℕ
-records [] s = []
-records (i ∷ is) s = records is s ++ markWord (forward is s .pc) ∷ map wordOf (stepStores i (forward is s))
+abbrev pub records : ℕ → State → List ℕ
+records zero s = []
+records (suc n) s = records n s ++ markWord (forward n s .pc) ∷ map wordOf (stepStores (forward n s))
 
 -- how many stores they made: the lengths of the rules' store lists
-abbrev pub total : List (List ℕ) → State → ℕ
-total [] s = 0
-total (i ∷ is) s = total is s + length (stepStores i (forward is s))
+abbrev pub total : ℕ → State → ℕ
+total zero s = 0
+total (suc n) s = total n s + length (stepStores (forward n s))
 
 -- ---- a run
 
--- how a run of at most n steps over an image ends: all n are made, or k are and the next is refused
-pub data Ends (n : ℕ) (i : List ℕ) (s : State) : Report → Type 0 where
-  full : AllAccepted (replicate n i) s → Ends n i s (report 0 n (total (replicate n i) s) (forward (replicate n i) s))
-  cut : {k a : ℕ} {t : State} → k < n → AllAccepted (replicate k i) s → step i (forward (replicate k i) s) ≡ refused a t
-      → Ends n i s (report a k (total (replicate k i) s) t)
+-- how a run of at most n steps ends: all n are made, or k are and the next is refused
+pub data Ends (n : ℕ) (s : State) : Report → Type 0 where
+  full : AllAccepted n s → Ends n s (report 0 n (total n s) (forward n s))
+  cut : {k a : ℕ} {t : State} → k < n → AllAccepted k s → step (forward k s) ≡ refused a t → Ends n s (report a k (total k s) t)
 
 -- ---- demand 3
 
--- What is so after any sequence of calls from s₀ that has come to the state s, with the steps `is` accepted and not taken back:
-pub record Demand3 (s₀ : State) (is : List (List ℕ)) (s : State) : Type 0 where
-  pub accepted : AllAccepted is s₀
+-- What is so after any sequence of calls from s₀ that has come to the state s, with n steps accepted and not taken back:
+pub record Demand3 (s₀ : State) (n : ℕ) (s : State) : Type 0 where
+  pub accepted : AllAccepted n s₀
   -- "the address and the memories are those reached by only the accepted steps not taken back"
-  pub address : s .pc ≡ forward is s₀ .pc
-  pub memories : (k : Kind) → cells k (s .mem) ≡ cells k (forward is s₀ .mem)
+  pub address : s .pc ≡ forward n s₀ .pc
+  pub memories : (k : Kind) → cells k (s .mem) ≡ cells k (forward n s₀ .mem)
   -- "The journal then uses one word for each such step and one for each store that it made": these words, and no others
-  pub used : s .mem .used ≡ length is + total is s₀
-  pub words : take (s .mem .used) (s .mem .journal) ≡ records is s₀
+  pub used : s .mem .used ≡ n + total n s₀
+  pub words : take (s .mem .used) (s .mem .journal) ≡ records n s₀
   -- "A step-back is refused only when no such step is left."
-  pub none-left : is ≡ [] → Refused (stepBack s)
-  pub some-left : (i : List ℕ) (js : List (List ℕ)) → is ≡ i ∷ js → Accepted (stepBack s)
+  pub none-left : n ≡ 0 → Refused (stepBack s)
+  pub some-left : 0 < n → Accepted (stepBack s)

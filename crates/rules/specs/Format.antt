@@ -1,17 +1,18 @@
 -- 01, "Format strings": FMT as a rule.
 use mathlib.Core.Bool.{Bool, true, false}
+use mathlib.Core.List.{List, [], _∷_}
 use Prim.Native.Nat.{ℕ, zero, suc, _+_, _-_, _*_, _/_, _%_}
 use lib.Dec.{ltb, eqb}
 use Rattle.rules.specs.Machine.{pick, Kind, cpu, upon, subPointer, ypt, xpt}
 use Rattle.rules.specs.Answers.{offCpu, tooLong}
-use Rattle.rules.specs.Rules.{Rule, give, refuse, _>>=_, _>>_, nextByte, nextWord, goto, peek, poke, need}
+use Rattle.rules.specs.Rules.{Rule, Deed, give, refuse, _>>=_, _>>_, nextByte, nextWord, goto, peek, poke, need}
 use Rattle.rules.specs.Operands.{place, position, draw}
 use Rattle.rules.specs.Instructions.{raise}
 
 -- ---- the cursor
 
 -- "row (modulo 256) and column are stored": the row's store keeps a byte
-unfoldable pub setCursor : ℕ → Rule (Unit {0})
+unfoldable pub setCursor : ℕ → Deed
 setCursor p = do
   poke cpu ypt (p / 32)
   poke cpu xpt (p % 32)
@@ -25,14 +26,14 @@ unfoldable pub wrapSkip : ℕ → ℕ
 wrapSkip p = pick (ltb p 0x300) p (p - 0x300)
 
 -- "stored to the screen; the position grows by 1 or 32; .. row (modulo 256) and column are stored"
-unfoldable pub show : ℕ → ℕ → Rule (Unit {0})
+unfoldable pub show : ℕ → ℕ → Deed
 show step b = do
   p ← position
   draw p b
   setCursor (wrapShow (p + step))
 
 -- "A skip .. then stores row and column likewise."
-unfoldable pub skip : ℕ → Rule (Unit {0})
+unfoldable pub skip : ℕ → Deed
 skip n = do
   p ← position
   setCursor (wrapSkip (p + n))
@@ -43,27 +44,27 @@ skip n = do
 abbrev pub biased : ℕ → ℕ → ℕ
 biased bias ch = (ch + bias) % 256
 
-unfoldable pub showNext : ℕ → ℕ → Rule (Unit {0})
+unfoldable pub showNext : ℕ → ℕ → Deed
 showNext step bias = do
   ch ← nextByte
   show step (biased bias ch)
 
 -- n characters
-unfoldable pub text : ℕ → ℕ → ℕ → Rule (Unit {0})
+unfoldable pub text : ℕ → ℕ → ℕ → Deed
 text zero step bias = give tt
 text (suc n) step bias = do
   showNext step bias
   text n step bias
 
 -- one character n times
-unfoldable pub showTimes : ℕ → ℕ → ℕ → Rule (Unit {0})
+unfoldable pub showTimes : ℕ → ℕ → ℕ → Deed
 showTimes zero step b = give tt
 showTimes (suc n) step b = do
   show step b
   showTimes n step b
 
 -- "one character repeated"
-unfoldable pub repeatText : ℕ → ℕ → ℕ → Rule (Unit {0})
+unfoldable pub repeatText : ℕ → ℕ → ℕ → Deed
 repeatText n step bias = do
   ch ← nextByte
   showTimes n step (biased bias ch)
@@ -78,20 +79,20 @@ cpuOperand = do
   need (isCpu (c .kind)) offCpu
   give (c .at)
 
-unfoldable pub showCell : ℕ → ℕ → Rule (Unit {0})
+unfoldable pub showCell : ℕ → ℕ → Deed
 showCell a bias = do
   ch ← peek cpu a
   show 1 (biased bias ch)
 
 -- n characters from a pad offset on
-unfoldable pub padText : ℕ → ℕ → ℕ → Rule (Unit {0})
+unfoldable pub padText : ℕ → ℕ → ℕ → Deed
 padText zero a bias = give tt
 padText (suc n) a bias = do
   showCell a bias
   padText n (suc a) bias
 
 -- "text across from a CPU operand"
-unfoldable pub operandText : ℕ → ℕ → Rule (Unit {0})
+unfoldable pub operandText : ℕ → ℕ → Deed
 operandText n bias = do
   a ← cpuOperand
   padText n a bias
@@ -104,7 +105,7 @@ pub data Turn : Type 0 where
   on : ℕ → ℕ → Turn
 
 -- a code that changes neither
-unfoldable pub goOn : ℕ → ℕ → Rule (Unit {0}) → Rule Turn
+unfoldable pub goOn : ℕ → ℕ → Deed → Rule Turn
 goOn bias blocks r = do
   r
   give (on bias blocks)
@@ -141,7 +142,7 @@ endInside bias blocks = do
   blockTurn ((n + 1) % 256) p a bias blocks
 
 -- row and column stored as the position gives them
-unfoldable pub settleCursor : Rule (Unit {0})
+unfoldable pub settleCursor : Deed
 settleCursor = do
   p ← position
   setCursor p
@@ -170,7 +171,7 @@ operandBias blocks = do
   give (on b blocks)
 
 -- "Row and column codes store both first, then the new byte."
-unfoldable pub cursorCode : ℕ → Rule (Unit {0})
+unfoldable pub cursorCode : ℕ → Deed
 cursorCode a = do
   settleCursor
   b ← nextByte
@@ -180,23 +181,36 @@ cursorCode a = do
 abbrev pub count : ℕ → ℕ
 count c = c % 32 + 1
 
--- ">00 text across, >20 text down, >40 one character repeated across, >60 down, >80 skip across, >A0 skip down, >C0 block.
--- >E0 to >FA: text across from a CPU operand. >FC bias from GROM, >FD from a CPU operand, >FE row, >FF column, >FB end."
-unfoldable pub codeRule : ℕ → ℕ → ℕ → Rule Turn
-codeRule bias blocks c =
-    pick (ltb c 0x20) (goOn bias blocks (text (count c) 1 bias))
-    (pick (ltb c 0x40) (goOn bias blocks (text (count c) 32 bias))
-    (pick (ltb c 0x60) (goOn bias blocks (repeatText (count c) 1 bias))
-    (pick (ltb c 0x80) (goOn bias blocks (repeatText (count c) 32 bias))
-    (pick (ltb c 0xA0) (goOn bias blocks (skip (count c)))
-    (pick (ltb c 0xC0) (goOn bias blocks (skip (count c * 32)))
-    (pick (ltb c 0xE0) (openBlock (count c) bias blocks)
-    (pick (ltb c 0xFB) (goOn bias blocks (operandText (count c) bias))
+-- ">00 text across, >20 text down, >40 one character repeated across, >60 down, >80 skip across, >A0 skip down, >C0 block"
+abbrev pub rows : ℕ → ℕ → ℕ → List (Rule Turn)
+rows bias blocks n =
+    goOn bias blocks (text n 1 bias)
+    ∷ goOn bias blocks (text n 32 bias)
+    ∷ goOn bias blocks (repeatText n 1 bias)
+    ∷ goOn bias blocks (repeatText n 32 bias)
+    ∷ goOn bias blocks (skip n)
+    ∷ goOn bias blocks (skip (n * 32))
+    ∷ openBlock n bias blocks
+    ∷ []
+
+-- ">E0 to >FA: text across from a CPU operand. >FC bias from GROM, >FD from a CPU operand, >FE row, >FF column, >FB end."
+unfoldable pub lastRow : ℕ → ℕ → ℕ → Rule Turn
+lastRow bias blocks c =
+    pick (ltb c 0xFB) (goOn bias blocks (operandText (count c) bias))
     (pick (ltb c 0xFC) (endCode bias blocks)
     (pick (ltb c 0xFD) (gromBias blocks)
     (pick (ltb c 0xFE) (operandBias blocks)
     (pick (ltb c 0xFF) (goOn bias blocks (cursorCode ypt))
-    (goOn bias blocks (cursorCode xpt)))))))))))))
+    (goOn bias blocks (cursorCode xpt))))))
+
+-- by the top three bits
+abbrev pub inRow : ℕ → List (Rule Turn) → Rule Turn → Rule Turn
+inRow k [] last = last
+inRow zero (r ∷ rs) last = r
+inRow (suc k) (r ∷ rs) last = inRow k rs last
+
+unfoldable pub codeRule : ℕ → ℕ → ℕ → Rule Turn
+codeRule bias blocks c = inRow (c / 32) (rows bias blocks (count c)) (lastRow bias blocks c)
 
 unfoldable pub code : ℕ → ℕ → Rule Turn
 code bias blocks = do
@@ -209,10 +223,10 @@ byTurn over x f = x
 byTurn (on bias blocks) x f = f bias blocks
 
 -- at most n codes more: "a 16,385th format code in one FMT, before it is read"
-unfoldable pub codes : ℕ → Turn → Rule (Unit {0})
+unfoldable pub codes : ℕ → Turn → Deed
 codes zero t = byTurn t (give tt) (λ bias blocks. refuse tooLong)
 codes (suc n) t = byTurn t (give tt) (λ bias blocks. code bias blocks >>= codes n)
 
 -- "Bias starts at 0."
-unfoldable pub fmtRule : Rule (Unit {0})
+unfoldable pub fmtRule : Deed
 fmtRule = codes 16384 (on 0 0)

@@ -1,9 +1,10 @@
 -- 01, "What a call says": the journal's words, how a store lays one, and how they are read and taken off again.
+use mathlib.Core.Bool.{Bool, false}
 use mathlib.Core.List.{List}
 use Prim.Native.Nat.{ℕ, zero, suc, _+_, _*_, _/_, _%_, _^_}
 use lib.Dec.{ltb}
 use lib.ListN.{getD, set}
-use Rattle.rules.specs.Machine.{pick, Kind, cpu, vdp, register, upon, reach, Mem, cells, put, beside}
+use Rattle.rules.specs.Machine.{Kind, cpu, vdp, register, upon, reach, Mem, cells, put, beside}
 
 -- ---- "Journal words: kind times 2^30, plus for kinds 0 (CPU), 1 (VDP), 2 (register) the address times 256 plus the byte that stood there"
 
@@ -47,23 +48,29 @@ pub data Note : Type 0 where
   stood : Kind → ℕ → ℕ → Note
   -- a step began at this address
   mark : ℕ → Note
-  -- "names no cell (pad above >DF, register above 7, VDP above >3FFF) or has a surplus bit"
-  unsound : Note
+  -- there is no such kind
+  nothing : Note
 
--- of a word below kind 3, by the thirty bits under its kind: the address is all that stands above the byte, so a surplus bit is an address out of reach
+-- of a word below kind 3, by the thirty bits under its kind: the address is all that stands above the byte
 abbrev pub stoodIn : Kind → ℕ → Note
-stoodIn k low = pick (ltb (low / 256) (reach k)) (stood k (low / 256) (low % 256)) unsound
+stoodIn k low = stood k (low / 256) (low % 256)
 
 -- by its kind and the thirty bits under it
 abbrev pub noteOf : ℕ → ℕ → Note
 noteOf zero low = stoodIn cpu low
 noteOf (suc zero) low = stoodIn vdp low
 noteOf (suc (suc zero)) low = stoodIn register low
-noteOf (suc (suc (suc zero))) low = pick (ltb low 65536) (mark low) unsound
-noteOf (suc (suc (suc (suc n)))) low = unsound
+noteOf (suc (suc (suc zero))) low = mark low
+noteOf (suc (suc (suc (suc n)))) low = nothing
 
 unfoldable pub note : ℕ → Note
 note w = noteOf (w / 2 ^ 30) (w % 2 ^ 30)
+
+-- not "names no cell (pad above >DF, register above 7, VDP above >3FFF) or has a surplus bit": a surplus bit of a store's word is an address out of reach
+abbrev pub sound : Note → Bool
+sound (stood k a b) = ltb a (reach k)
+sound (mark pc) = ltb pc 65536
+sound nothing = false
 
 -- ---- words taken off: "takes words from the top down .., restores each, .. zeroes them"
 
@@ -71,7 +78,7 @@ note w = noteOf (w / 2 ^ 30) (w % 2 ^ 30)
 abbrev pub restore : Note → Mem → Mem
 restore (stood k a b) m = put k a b m
 restore (mark pc) m = m
-restore unsound m = m
+restore nothing m = m
 
 -- the word at u is zeroed, and no longer used
 abbrev pub zeroTop : ℕ → Mem → Mem

@@ -40,20 +40,21 @@ size k = upon k 256 16384 8
 abbrev pub reach : Kind → ℕ
 reach k = upon k 0xE0 16384 8
 
--- "GROM image, read only | 1 to 8 groups of 8,192 bytes, from address 0": the image stands beside the machine, as a list of bytes
+-- "1 to 8 groups of 8,192 bytes, from address 0"
 abbrev pub group : ℕ
 group = 8192
 
--- what a step may change: the three memories, and "Journal | 0 to 1,048,576 words of 32 bits, and a used count"
+-- "GROM image, read only", the three memories, and "Journal | 0 to 1,048,576 words of 32 bits, and a used count"
 pub record Mem : Type 0 where
+  pub image : List ℕ
   pub pad : List ℕ
   pub vram : List ℕ
   pub regs : List ℕ
   pub journal : List ℕ
   pub used : ℕ
 
-abbrev pub mem : List ℕ → List ℕ → List ℕ → List ℕ → ℕ → Mem
-mem p v r j u = record { pad = p; vram = v; regs = r; journal = j; used = u }
+abbrev pub mem : List ℕ → List ℕ → List ℕ → List ℕ → List ℕ → ℕ → Mem
+mem i p v r j u = record { image = i; pad = p; vram = v; regs = r; journal = j; used = u }
 
 -- "Program address (pc) | 16 bits"
 pub record State : Type 0 where
@@ -70,12 +71,12 @@ cells k m = upon k (m .pad) (m .vram) (m .regs)
 -- the same machine with a byte in a cell
 abbrev pub put : Kind → ℕ → ℕ → Mem → Mem
 put k a b m =
-    mem (upon k (set (m .pad) a b) (m .pad) (m .pad)) (upon k (m .vram) (set (m .vram) a b) (m .vram))
+    mem (m .image) (upon k (set (m .pad) a b) (m .pad) (m .pad)) (upon k (m .vram) (set (m .vram) a b) (m .vram))
     (upon k (m .regs) (m .regs) (set (m .regs) a b)) (m .journal) (m .used)
 
 -- the same cells beside another journal
 abbrev pub beside : List ℕ → ℕ → Mem → Mem
-beside j u m = mem (m .pad) (m .vram) (m .regs) j u
+beside j u m = mem (m .image) (m .pad) (m .vram) (m .regs) j u
 
 -- ---- how they count
 

@@ -4,7 +4,7 @@ use Prim.Native.Nat.{ℕ, _+_, _-_, _*_, _%_}
 use lib.Dec.{ltb, leb, eqb}
 use Rattle.rules.specs.Machine.{pick, _also_, bit, Kind, cpu, vdp, upon, size, reach, joined, highByte, lowByte, dataPointer, status, buffer, ypt, xpt}
 use Rattle.rules.specs.Answers.{outside, offStack, offScreen}
-use Rattle.rules.specs.Rules.{Rule, give, _>>=_, _>>_, nextByte, nextWord, peek, peekWord, poke, need}
+use Rattle.rules.specs.Rules.{Rule, Deed, give, _>>=_, _>>_, nextByte, nextWord, peek, peekWord, poke, need}
 
 -- "From >80 on, bit 0 means word": true for a word, false for a byte
 abbrev pub Width : Type 0
@@ -132,7 +132,7 @@ abbrev pub onScreen : ℕ → Bool
 onScreen p = ltb p (size vdp)
 
 -- a screen store: 9 first
-unfoldable pub draw : ℕ → ℕ → Rule (Unit {0})
+unfoldable pub draw : ℕ → ℕ → Deed
 draw p b = do
   need (onScreen p) offScreen
   poke vdp p b
@@ -145,7 +145,7 @@ screenByte = do
   peek vdp p
 
 -- a byte to the screen at the position
-unfoldable pub toScreen : ℕ → Rule (Unit {0})
+unfoldable pub toScreen : ℕ → Deed
 toScreen b = do
   p ← position
   draw p b
@@ -156,13 +156,13 @@ toScreen b = do
 abbrev pub isBuffer : Cell → Bool
 isBuffer c = upon (c .kind) (eqb (c .at) buffer) false false
 
-unfoldable pub loadBuffer : Rule (Unit {0})
+unfoldable pub loadBuffer : Deed
 loadBuffer = do
   b ← screenByte
   poke cpu buffer b
 
 -- "A read whose first byte is pad >7D first stores the screen byte there."
-unfoldable pub refresh : Cell → Rule (Unit {0})
+unfoldable pub refresh : Cell → Deed
 refresh c = pick (isBuffer c) loadBuffer (give tt)
 
 -- what stands in a cell or two, as it stands: "Index words, pointers, DIV's low half when read, MOVE's bytes and format strings do neither."
@@ -176,19 +176,19 @@ value w c = do
   standing w c
 
 -- high byte first, each byte a store of its own
-unfoldable pub pokeWord : Kind → ℕ → ℕ → Rule (Unit {0})
+unfoldable pub pokeWord : Kind → ℕ → ℕ → Deed
 pokeWord k a v = do
   poke k a (highByte v)
   poke k (a + 1) (lowByte v)
 
-unfoldable pub storeValue : Width → Cell → ℕ → Rule (Unit {0})
+unfoldable pub storeValue : Width → Cell → ℕ → Deed
 storeValue w c v = pick w (pokeWord (c .kind) (c .at) v) (poke (c .kind) (c .at) v)
 
-unfoldable pub echo : Cell → ℕ → Rule (Unit {0})
+unfoldable pub echo : Cell → ℕ → Deed
 echo c b = pick (isBuffer c) (toScreen b) (give tt)
 
 -- "If a result's last byte (each half of MUL's or DIV's is one) goes to pad >7D, that byte then goes to the screen too."
-unfoldable pub result : Width → Cell → ℕ → Rule (Unit {0})
+unfoldable pub result : Width → Cell → ℕ → Deed
 result w c v = do
   storeValue w c v
   echo (past (byteCount w - 1) c) (lowByte v)
@@ -199,6 +199,13 @@ unfoldable pub operandValue : Width → Rule ℕ
 operandValue w = do
   c ← operand w
   value w c
+
+-- an operand that is stored to, "read, also one only stored to", and what goes on from its cell and its value
+abbrev pub target : Width → (Cell → ℕ → Deed) → Deed
+target w f = do
+  c ← operand w
+  v ← value w c
+  f c v
 
 -- the bytes at pc
 unfoldable pub immediate : Width → Rule ℕ

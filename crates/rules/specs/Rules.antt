@@ -31,6 +31,10 @@ pub data Rule (A : Type 0) : Type 0 where
   refuse : Why → Rule A
   act : Act → (ℕ → Rule A) → Rule A
 
+-- a rule that gives no value
+abbrev pub Deed : Type 0
+Deed = Rule (Unit {0})
+
 -- one rule after the other
 infixl 1 _>>=_
 unfoldable pub _>>=_ : {A B : Type 0} → Rule A → (A → Rule B) → Rule B
@@ -58,26 +62,26 @@ then (stopped n m) k = stopped n m
 abbrev pub room : Mem → Bool
 room m = ltb (m .used) (length (m .journal))
 
--- one action on an image, a program address and the memories. "For one store, 4, 5, 9 or 13 comes before 10."
-unfoldable pub perform : Act → List ℕ → ℕ → Mem → Out ℕ
-perform next i pc m = pick (ltb pc (length i)) (got (getD i pc 0) (onward pc) m) (stopped (number offGrom) m)
-perform (grom a) i pc m = pick (ltb a (length i)) (got (getD i a 0) pc m) (stopped (number offGrom) m)
-perform ask i pc m = got pc pc m
-perform (jump a) i pc m = got 0 (a % 65536) m
-perform (load k a) i pc m = pick (ltb a (reach k)) (got (getD (cells k m) a 0) pc m) (stopped (number (outside k)) m)
-perform (store k a b) i pc m =
+-- one action on a program address and the memories. "For one store, 4, 5, 9 or 13 comes before 10."
+unfoldable pub perform : Act → ℕ → Mem → Out ℕ
+perform next pc m = pick (ltb pc (length (m .image))) (got (getD (m .image) pc 0) (onward pc) m) (stopped (number offGrom) m)
+perform (grom a) pc m = pick (ltb a (length (m .image))) (got (getD (m .image) a 0) pc m) (stopped (number offGrom) m)
+perform ask pc m = got pc pc m
+perform (jump a) pc m = got 0 (a % 65536) m
+perform (load k a) pc m = pick (ltb a (reach k)) (got (getD (cells k m) a 0) pc m) (stopped (number (outside k)) m)
+perform (store k a b) pc m =
     pick (ltb a (reach k))
     (pick (room m) (got 0 pc (make (storeOf k a (b % 256) m) m)) (stopped (number noRoom) m))
     (stopped (number (outside k)) m)
 
-unfoldable pub exec : {A : Type 0} → Rule A → List ℕ → ℕ → Mem → Out A
-exec (give a) i pc m = got a pc m
-exec (refuse why) i pc m = stopped (number why) m
-exec (act q k) i pc m = then (perform q i pc m) (λ v pc₁ m₁. exec (k v) i pc₁ m₁)
+unfoldable pub exec : {A : Type 0} → Rule A → ℕ → Mem → Out A
+exec (give a) pc m = got a pc m
+exec (refuse why) pc m = stopped (number why) m
+exec (act q k) pc m = then (perform q pc m) (λ v pc₁ m₁. exec (k v) pc₁ m₁)
 
 -- a rule after what went before it
-unfoldable pub after : {A B : Type 0} → List ℕ → Out A → Rule B → Out B
-after i o r = then o (λ _ pc m. exec r i pc m)
+unfoldable pub after : {A B : Type 0} → Out A → Rule B → Out B
+after o r = then o (λ _ pc m. exec r pc m)
 
 -- a value beside what went before it, as the contracts of the code have it
 unfoldable pub valued : {A : Type 0} → A → Out (Unit {0}) → Out A
@@ -98,10 +102,10 @@ abbrev pub storesThen : {A : Type 0} → Out A → (A → ℕ → Mem → List S
 storesThen (got a pc m) f = f a pc m
 storesThen (stopped n m) f = []
 
-unfoldable pub stores : {A : Type 0} → Rule A → List ℕ → ℕ → Mem → List Store
-stores (give a) i pc m = []
-stores (refuse why) i pc m = []
-stores (act q k) i pc m = actStores q m ++ storesThen (perform q i pc m) (λ v pc₁ m₁. stores (k v) i pc₁ m₁)
+unfoldable pub stores : {A : Type 0} → Rule A → ℕ → Mem → List Store
+stores (give a) pc m = []
+stores (refuse why) pc m = []
+stores (act q k) pc m = actStores q m ++ storesThen (perform q pc m) (λ v pc₁ m₁. stores (k v) pc₁ m₁)
 
 -- ---- the words of which the instructions are made
 
@@ -114,17 +118,17 @@ gromByte a = act (grom a) give
 abbrev pub here : Rule ℕ
 here = act ask give
 
-abbrev pub goto : ℕ → Rule (Unit {0})
+abbrev pub goto : ℕ → Deed
 goto a = act (jump a) (λ _. give tt)
 
 abbrev pub peek : Kind → ℕ → Rule ℕ
 peek k a = act (load k a) give
 
-abbrev pub poke : Kind → ℕ → ℕ → Rule (Unit {0})
+abbrev pub poke : Kind → ℕ → ℕ → Deed
 poke k a b = act (store k a b) (λ _. give tt)
 
 -- a refusal, unless a test holds
-unfoldable pub need : Bool → Why → Rule (Unit {0})
+unfoldable pub need : Bool → Why → Deed
 need true why = give tt
 need false why = refuse why
 

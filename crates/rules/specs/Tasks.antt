@@ -1,11 +1,11 @@
 -- 01, "Instructions": the rule of each task.
-use Rattle.rules.specs.Rules.{Rule}
+use Rattle.rules.specs.Rules.{Deed}
 use Rattle.rules.specs.Opcodes.{Task, rtn, rtnc, rand, back, long, call, all, fmt, test, move, branch, one, fetch, case, push, two, mul, div, ex}
 use Rattle.rules.specs.Instructions.{oneRule, twoRule, testRule, mulRule, divRule, exRule, pushRule}
 use Rattle.rules.specs.Instructions.{branchRule, longRule, callRule, rtnRule, rtncRule, caseRule, fetchRule, randRule, backRule, allRule, moveRule}
 use Rattle.rules.specs.Format.{fmtRule}
 
-unfoldable pub ruleOf : Task → Rule (Unit {0})
+unfoldable pub ruleOf : Task → Deed
 ruleOf rtn = rtnRule
 ruleOf rtnc = rtncRule
 ruleOf rand = randRule

@@ -6,54 +6,6 @@ use borrow.Author.Needs.{needs}
 use Rattle.arith.proofs.effects.one_effect.Statement.{statement}
 use Rattle.arith.proofs.effects.one_effect.Tie as tie
 
-enum-told : tie.Need-enum-told
-enum-told c = search needs
-
-absolute-requires : tie.Need-absolute-requires
-absolute-requires c κs = search needs
-
-enum-told-2 : tie.Need-enum-told-2
-enum-told-2 c = search needs
-
-complement-requires : tie.Need-complement-requires
-complement-requires c κs = search needs
-
-enum-told-3 : tie.Need-enum-told-3
-enum-told-3 c = search needs
-
-inverse-requires : tie.Need-inverse-requires
-inverse-requires c κs = search needs
-
-enum-told-4 : tie.Need-enum-told-4
-enum-told-4 c = search needs
-
-enum-told-5 : tie.Need-enum-told-5
-enum-told-5 c = search needs
-
-compared-requires : tie.Need-compared-requires
-compared-requires c κs = search needs
-
-enum-told-6 : tie.Need-enum-told-6
-enum-told-6 c = search needs
-
-added-requires : tie.Need-added-requires
-added-requires c κs = search needs
-
-enum-told-7 : tie.Need-enum-told-7
-enum-told-7 c = search needs
-
-subtracted-requires : tie.Need-subtracted-requires
-subtracted-requires c κs = search needs
-
-enum-told-8 : tie.Need-enum-told-8
-enum-told-8 c = search needs
-
-added-requires-2 : tie.Need-added-requires-2
-added-requires-2 c κs = search needs
-
-enum-told-9 : tie.Need-enum-told-9
-enum-told-9 c = search needs
-
 subtracted-requires-2 : tie.Need-subtracted-requires-2
 subtracted-requires-2 c κs = two-below (c .before .before .args .wide)
 
@@ -95,31 +47,6 @@ returns-9 c = rw (c .before .enum-told9 .given .1) (c .subtracted2 .ensures)
 
 pub one-effect-spec : {M : Type 1} → statement M
 one-effect-spec =
-    tie.close
-    (tie.spec
-    enum-told
-    absolute-requires
-    enum-told-2
-    complement-requires
-    enum-told-3
-    inverse-requires
-    enum-told-4
-    enum-told-5
-    compared-requires
-    enum-told-6
-    added-requires
-    enum-told-7
-    subtracted-requires
-    enum-told-8
-    added-requires-2
-    enum-told-9
-    subtracted-requires-2
-    returns
-    returns-2
-    returns-3
-    returns-4
-    returns-5
-    returns-6
-    returns-7
-    returns-8
-    returns-9)
+    tie.close (tie.spec (search needs) (search needs) (search needs) (search needs) (search needs) (search needs) (search needs)
+    (search needs) (search needs) (search needs) (search needs) (search needs) (search needs) (search needs) (search needs)
+    (search needs) subtracted-requires-2 returns returns-2 returns-3 returns-4 returns-5 returns-6 returns-7 returns-8 returns-9)

@@ -5,14 +5,9 @@ use borrow.Author.Needs.{needs}
 use Rattle.arith.proofs.effects.subtracted.Statement.{statement}
 use Rattle.arith.proofs.effects.subtracted.Tie as tie
 
-complement-requires : tie.Need-complement-requires
-complement-requires c κs = search needs
-
-added-requires : tie.Need-added-requires
-added-requires c κs = search needs
-
 returns : tie.Need-returns
 returns c = c .added .ensures ∙ ap (added (half (c .before .before .args .wide)) (c .before .before .args .a)) (c .before .complement .ensures)
 
 pub subtracted-spec : {M : Type 1} → statement M
-subtracted-spec = tie.close (tie.spec complement-requires added-requires returns)
+subtracted-spec =
+    tie.close (tie.spec (search needs) (search needs) returns)

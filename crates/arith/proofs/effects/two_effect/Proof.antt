@@ -5,102 +5,6 @@ use borrow.Author.Needs.{needs}
 use Rattle.arith.proofs.effects.two_effect.Statement.{statement}
 use Rattle.arith.proofs.effects.two_effect.Tie as tie
 
-shift-count-requires : tie.Need-shift-count-requires
-shift-count-requires c κs = search needs
-
-enum-told : tie.Need-enum-told
-enum-told c = search needs
-
-added-requires : tie.Need-added-requires
-added-requires c κs = search needs
-
-enum-told-2 : tie.Need-enum-told-2
-enum-told-2 c = search needs
-
-subtracted-requires : tie.Need-subtracted-requires
-subtracted-requires c κs = search needs
-
-enum-told-3 : tie.Need-enum-told-3
-enum-told-3 c = search needs
-
-logical-requires : tie.Need-logical-requires
-logical-requires c κs = search needs
-
-enum-told-4 : tie.Need-enum-told-4
-enum-told-4 c = search needs
-
-logical-requires-2 : tie.Need-logical-requires-2
-logical-requires-2 c κs = search needs
-
-enum-told-5 : tie.Need-enum-told-5
-enum-told-5 c = search needs
-
-logical-requires-3 : tie.Need-logical-requires-3
-logical-requires-3 c κs = search needs
-
-enum-told-6 : tie.Need-enum-told-6
-enum-told-6 c = search needs
-
-enum-told-7 : tie.Need-enum-told-7
-enum-told-7 c = search needs
-
-enum-told-8 : tie.Need-enum-told-8
-enum-told-8 c = search needs
-
-enum-told-9 : tie.Need-enum-told-9
-enum-told-9 c = search needs
-
-above-requires : tie.Need-above-requires
-above-requires c κs = search needs
-
-enum-told-10 : tie.Need-enum-told-10
-enum-told-10 c = search needs
-
-at-least-requires : tie.Need-at-least-requires
-at-least-requires c κs = search needs
-
-enum-told-11 : tie.Need-enum-told-11
-enum-told-11 c = search needs
-
-compared-requires : tie.Need-compared-requires
-compared-requires c κs = search needs
-
-enum-told-12 : tie.Need-enum-told-12
-enum-told-12 c = search needs
-
-enum-told-13 : tie.Need-enum-told-13
-enum-told-13 c = search needs
-
-extended-requires : tie.Need-extended-requires
-extended-requires c κs = search needs
-
-arithmetic-requires : tie.Need-arithmetic-requires
-arithmetic-requires c κs = search needs
-
-enum-told-14 : tie.Need-enum-told-14
-enum-told-14 c = search needs
-
-extended-requires-2 : tie.Need-extended-requires-2
-extended-requires-2 c κs = search needs
-
-leftward-requires : tie.Need-leftward-requires
-leftward-requires c κs = search needs
-
-enum-told-15 : tie.Need-enum-told-15
-enum-told-15 c = search needs
-
-rightward-requires : tie.Need-rightward-requires
-rightward-requires c κs = search needs
-
-enum-told-16 : tie.Need-enum-told-16
-enum-told-16 c = search needs
-
-repeated-requires : tie.Need-repeated-requires
-repeated-requires c κs = search needs
-
-circular-requires : tie.Need-circular-requires
-circular-requires c κs = search needs
-
 returns : tie.Need-returns
 unfolding twoEffect
 returns c = rw (c .before .enum-told .given .1) (c .added .ensures)
@@ -175,53 +79,9 @@ returns-16 c =
 
 pub two-effect-spec : {M : Type 1} → statement M
 two-effect-spec =
-    tie.close
-    (tie.spec
-    shift-count-requires
-    enum-told
-    added-requires
-    enum-told-2
-    subtracted-requires
-    enum-told-3
-    logical-requires
-    enum-told-4
-    logical-requires-2
-    enum-told-5
-    logical-requires-3
-    enum-told-6
-    enum-told-7
-    enum-told-8
-    enum-told-9
-    above-requires
-    enum-told-10
-    at-least-requires
-    enum-told-11
-    compared-requires
-    enum-told-12
-    enum-told-13
-    extended-requires
-    arithmetic-requires
-    enum-told-14
-    extended-requires-2
-    leftward-requires
-    enum-told-15
-    rightward-requires
-    enum-told-16
-    repeated-requires
-    circular-requires
-    returns
-    returns-2
-    returns-3
-    returns-4
-    returns-5
-    returns-6
-    returns-7
-    returns-8
-    returns-9
-    returns-10
-    returns-11
-    returns-12
-    returns-13
-    returns-14
-    returns-15
-    returns-16)
+    tie.close (tie.spec (search needs) (search needs) (search needs) (search needs) (search needs) (search needs) (search needs)
+    (search needs) (search needs) (search needs) (search needs) (search needs) (search needs) (search needs) (search needs)
+    (search needs) (search needs) (search needs) (search needs) (search needs) (search needs) (search needs) (search needs)
+    (search needs) (search needs) (search needs) (search needs) (search needs) (search needs) (search needs) (search needs)
+    (search needs) returns returns-2 returns-3 returns-4 returns-5 returns-6 returns-7 returns-8 returns-9 returns-10 returns-11
+    returns-12 returns-13 returns-14 returns-15 returns-16)

@@ -6,12 +6,6 @@ use borrow.Author.Needs.{needs}
 use Rattle.arith.proofs.operations.ex.Statement.{statement}
 use Rattle.arith.proofs.operations.ex.Tie as tie
 
-read-target-requires : tie.Need-read-target-requires
-read-target-requires c κs = search needs
-
-read-target-requires-2 : tie.Need-read-target-requires-2
-read-target-requires-2 c κs = search needs
-
 result-requires : tie.Need-result-requires
 result-requires c κs =
     let at-read-target2 = c .before .before .before .before .before .before .before .before in
@@ -37,16 +31,14 @@ same-length c =
     let at-read-target = at-read-target2 .before .before .before .before .before .before .before .before .before in
     at-result2 .result2 .kept .0 ∙ at-result .result .kept .0 ∙ at-read-target2 .read-target2 .kept .1 .0 ∙ at-read-target .read-target .kept .1 .0
 
-same-length-2 : tie.Need-same-length-2
-same-length-2 c = search needs
-
 same-length-3 : tie.Need-same-length-3
 same-length-3 c =
     let at-result2 = c .before .before .before .before .before .before in
     let at-result = at-result2 .before .before .before .before .before .before .before .before .before .before in
     let at-read-target2 = at-result .before .before .before .before .before .before .before .before .before in
     let at-read-target = at-read-target2 .before .before .before .before .before .before .before .before .before in
-    at-result2 .result2 .kept .1 .1 .0 ∙ at-result .result .kept .1 .1 .0 ∙ at-read-target2 .read-target2 .kept .1 .1 .1 .0 ∙ at-read-target .read-target .kept .1 .1 .1 .0
+    at-result2 .result2 .kept .1 .1 .0 ∙ at-result .result .kept .1 .1 .0 ∙ at-read-target2 .read-target2 .kept .1 .1 .1 .0
+    ∙ at-read-target .read-target .kept .1 .1 .1 .0
 
 returns : tie.Need-returns
 unfolding exRule
@@ -60,13 +52,5 @@ returns c =
 
 pub ex-spec : {M : Type 1} → statement M
 ex-spec =
-    tie.close
-    (tie.spec
-    read-target-requires
-    read-target-requires-2
-    result-requires
-    result-requires-2
-    same-length
-    same-length-2
-    same-length-3
+    tie.close (tie.spec (search needs) (search needs) result-requires result-requires-2 same-length (search needs) same-length-3
     returns)

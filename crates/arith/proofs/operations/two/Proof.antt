@@ -6,15 +6,6 @@ use borrow.Author.Needs.{needs}
 use Rattle.arith.proofs.operations.two.Statement.{statement}
 use Rattle.arith.proofs.operations.two.Tie as tie
 
-read-target-requires : tie.Need-read-target-requires
-read-target-requires c κs = search needs
-
-source-requires : tie.Need-source-requires
-source-requires c κs = search needs
-
-two-effect-requires : tie.Need-two-effect-requires
-two-effect-requires c κs = search needs
-
 store-effect-requires : tie.Need-store-effect-requires
 store-effect-requires c κs =
     let at-source = c .before .before .before .before .before .before .before .before in
@@ -29,12 +20,6 @@ same-length c =
     let at-read-target = at-source .before .before .before .before .before .before .before .before .before in
     at-store-effect .store-effect .kept .0 ∙ at-source .source .kept .1 .0 ∙ at-read-target .read-target .kept .1 .0
 
-same-length-2 : tie.Need-same-length-2
-same-length-2 c = search needs
-
-same-length-3 : tie.Need-same-length-3
-same-length-3 c = search needs
-
 returns : tie.Need-returns
 unfolding twoRule
 returns c =
@@ -47,13 +32,5 @@ returns c =
 
 pub two-spec : {M : Type 1} → statement M
 two-spec =
-    tie.close
-    (tie.spec
-    read-target-requires
-    source-requires
-    two-effect-requires
-    store-effect-requires
-    same-length
-    same-length-2
-    same-length-3
-    returns)
+    tie.close (tie.spec (search needs) (search needs) (search needs) store-effect-requires same-length (search needs)
+    (search needs) returns)

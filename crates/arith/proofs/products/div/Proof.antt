@@ -9,24 +9,12 @@ use borrow.Author.Needs.{needs}
 use Rattle.arith.proofs.products.div.Statement.{statement}
 use Rattle.arith.proofs.products.div.Tie as tie
 
-read-target-requires : tie.Need-read-target-requires
-read-target-requires c κs = search needs
-
-source-requires : tie.Need-source-requires
-source-requires c κs = search needs
-
-div-status-requires : tie.Need-div-status-requires
-div-status-requires c κs = search needs
-
 poke-pad-requires : tie.Need-poke-pad-requires
 poke-pad-requires c κs =
     let at-source = c .before .before .before .before .before .before .before in
     let at-read-target = at-source .before .before .before .before .before .before .before .before .before in
     let start = at-read-target .before .before .before .before .before .before .before .before in
     at-source .source .kept .1 .0 ∙ at-read-target .read-target .kept .1 .0 ∙ start .pre .0
-
-low-half-requires : tie.Need-low-half-requires
-low-half-requires c κs = search needs
 
 standing-requires : tie.Need-standing-requires
 standing-requires c κs =
@@ -57,9 +45,6 @@ same-length c =
     let at-read-target = at-source .before .before .before .before .before .before .before .before .before in
     at-divided .divided .kept .0 ∙ at-poke-pad .poke-pad .kept .0 ∙ at-source .source .kept .1 .0 ∙ at-read-target .read-target .kept .1 .0
 
-same-length-2 : tie.Need-same-length-2
-same-length-2 c = search needs
-
 same-length-3 : tie.Need-same-length-3
 same-length-3 c =
     let at-divided = c .before .before .before .before .before .before in
@@ -84,16 +69,5 @@ returns c =
 
 pub div-spec : {M : Type 1} → statement M
 div-spec =
-    tie.close
-    (tie.spec
-    read-target-requires
-    source-requires
-    div-status-requires
-    poke-pad-requires
-    low-half-requires
-    standing-requires
-    divided-requires
-    same-length
-    same-length-2
-    same-length-3
-    returns)
+    tie.close (tie.spec (search needs) (search needs) (search needs) poke-pad-requires (search needs) standing-requires
+    divided-requires same-length (search needs) same-length-3 returns)

@@ -2,22 +2,14 @@
 use mathlib.Core.Path.{_∙_, ap}
 use Prim.Native.Nat.{ℕ}
 use Rattle.rules.specs.Operands.{past}
-use Rattle.operand.specs.Places.{cellOf}
+use Rattle.operand.specs.Meaning.{cellOf}
 use borrow.Author.Needs.{needs}
 use Rattle.arith.proofs.products.low_half.Statement.{statement}
 use Rattle.arith.proofs.products.low_half.Tie as tie
-
-byte-count-requires : tie.Need-byte-count-requires
-byte-count-requires c κs = search needs
-
-cast-n : tie.Need-cast-n
-cast-n c = search needs
-
-beyond-requires : tie.Need-beyond-requires
-beyond-requires c κs = search needs
 
 returns : tie.Need-returns
 returns c = c .beyond .ensures ∙ ap (λ (n : ℕ). past n (cellOf (c .before .before .args .place))) (c .before .byte-count .ensures .0)
 
 pub low-half-spec : {M : Type 1} → statement M
-low-half-spec = tie.close (tie.spec byte-count-requires cast-n beyond-requires returns)
+low-half-spec =
+    tie.close (tie.spec (search needs) (search needs) (search needs) returns)

@@ -1,20 +1,10 @@
 -- The destination and its value, the source, then the two halves of the product.
 use mathlib.Core.Path.{_∙_}
-use Rattle.rules.specs.Instructions.{mulRule}
+use Rattle.rules.specs.Instructions.{mulRule, halves}
 use Rattle.machine.proofs.Chain.{bind, via₂, ends}
-use Rattle.arith.specs.Halves.{halves}
 use borrow.Author.Needs.{needs}
 use Rattle.arith.proofs.products.mul.Statement.{statement}
 use Rattle.arith.proofs.products.mul.Tie as tie
-
-read-target-requires : tie.Need-read-target-requires
-read-target-requires c κs = search needs
-
-source-requires : tie.Need-source-requires
-source-requires c κs = search needs
-
-times-requires : tie.Need-times-requires
-times-requires c κs = search needs
 
 store-halves-requires : tie.Need-store-halves-requires
 store-halves-requires c κs =
@@ -30,14 +20,8 @@ same-length c =
     let at-read-target = at-source .before .before .before .before .before .before .before .before .before in
     at-store-halves .store-halves .kept .0 ∙ at-source .source .kept .1 .0 ∙ at-read-target .read-target .kept .1 .0
 
-same-length-2 : tie.Need-same-length-2
-same-length-2 c = search needs
-
-same-length-3 : tie.Need-same-length-3
-same-length-3 c = search needs
-
 returns : tie.Need-returns
-unfolding mulRule halves
+unfolding mulRule
 returns c =
     let at-store-halves = c .before .before .before .before .before .before in
     let at-times = at-store-halves .before .before .before .before in
@@ -48,13 +32,5 @@ returns c =
 
 pub mul-spec : {M : Type 1} → statement M
 mul-spec =
-    tie.close
-    (tie.spec
-    read-target-requires
-    source-requires
-    times-requires
-    store-halves-requires
-    same-length
-    same-length-2
-    same-length-3
-    returns)
+    tie.close (tie.spec (search needs) (search needs) (search needs) store-halves-requires same-length (search needs)
+    (search needs) returns)

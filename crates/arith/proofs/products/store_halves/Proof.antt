@@ -1,28 +1,10 @@
 -- One result, then the other in the low half's cell.
+use Rattle.rules.specs.Instructions.{halves}
 use Rattle.rules.specs.Operands.{Cell, result}
 use Rattle.machine.proofs.Chain.{seq, via}
-use Rattle.arith.specs.Halves.{halves}
 use borrow.Author.Needs.{needs}
 use Rattle.arith.proofs.products.store_halves.Statement.{statement}
 use Rattle.arith.proofs.products.store_halves.Tie as tie
-
-result-requires : tie.Need-result-requires
-result-requires c κs = search needs
-
-low-half-requires : tie.Need-low-half-requires
-low-half-requires c κs = search needs
-
-result-requires-2 : tie.Need-result-requires-2
-result-requires-2 c κs = search needs
-
-same-length : tie.Need-same-length
-same-length c = search needs
-
-same-length-2 : tie.Need-same-length-2
-same-length-2 c = search needs
-
-same-length-3 : tie.Need-same-length-3
-same-length-3 c = search needs
 
 returns : tie.Need-returns
 unfolding halves
@@ -36,12 +18,4 @@ returns c =
 
 pub store-halves-spec : {M : Type 1} → statement M
 store-halves-spec =
-    tie.close
-    (tie.spec
-    result-requires
-    low-half-requires
-    result-requires-2
-    same-length
-    same-length-2
-    same-length-3
-    returns)
+    tie.close (tie.spec (search needs) (search needs) (search needs) (search needs) (search needs) (search needs) returns)

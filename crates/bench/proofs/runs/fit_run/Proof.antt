@@ -13,7 +13,7 @@ use Rattle.bench.proofs.runs.fit_run.Tie as tie
 
 abbrev Inv-loop : tie.InvT-loop
 Inv-loop image pad₀ vram₀ regs₀ journal₀ n here₀ done₀ stores₀ pad vram regs journal here done stores =
-    Underway n image (stateAt pad₀ vram₀ regs₀ journal₀ here₀) done stores (stateAt pad vram regs journal here)
+    Underway n (stateAt image pad₀ vram₀ regs₀ journal₀ here₀) done stores (stateAt image pad vram regs journal here)
     × (length pad ≡ length pad₀) × (length vram ≡ length vram₀) × (length regs ≡ length regs₀) × (length journal ≡ length journal₀)
 
 abbrev μ-loop : tie.MeasureT-loop

@@ -25,7 +25,7 @@ undo-requires : tie.Need-undo-requires
 undo-requires c κs =
     let at-try-task = c .before .before .before .before .before .before .before .before .before .before .before .before .before .before .before in
     let start = at-try-task .before .before .before .before .before .before .before .before .before .before in
-    (search needs, search needs, search needs, used-stays (at-try-task .try-task .ensures _) (start .pre .used))
+    used-stays (at-try-task .try-task .ensures _) (start .pre .used)
 
 returns-2 : tie.Need-returns-2
 returns-2 c =
@@ -38,7 +38,7 @@ returns-2 c =
     let at-slice-known = at-slice-known2 .before in
     λ _. rw (c .refused .ensures) (task-undone (omega (arith, at-struct-known .struct-known .given))
     (at-slice-known .slice-known .given) (at-slice-known2 .slice-known2 .given) (at-slice-known3 .slice-known3 .given)
-    (at-try-task .try-task .ensures _) (at-if1 .if1 .left) (at-undo .undo .ensures))
+    (at-try-task .try-task .ensures _) (at-if1 .if1 .left) (at-undo .undo .ensures _))
 
 pub do-task-spec : {M : Type 1} → statement M
 do-task-spec =

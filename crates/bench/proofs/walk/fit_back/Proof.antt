@@ -12,7 +12,7 @@ returns-2 c =
     let at-undo = c .before .before .before .before .before .before .before .before in
     let at-if1 = at-undo .before .before .before .before .before in
     let at-find = at-if1 .before in
-    λ _. back-found (at-find .find .ensures) (at-if1 .if1 .left) (at-undo .undo .ensures)
+    λ _. back-found (at-find .find .ensures) (at-if1 .if1 .left) (at-undo .undo .ensures _)
 
 pub fit-back-spec : {M : Type 1} → statement M
 fit-back-spec =

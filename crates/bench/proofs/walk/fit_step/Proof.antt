@@ -1,6 +1,6 @@
 -- No opcode; one that is stopped; or its task.
 use mathlib.Core.Path.{_∙_, ap, sym}
-use Rattle.opcode.specs.Classes.{meant}
+use Rattle.opcode.specs.Meaning.{meant}
 use Rattle.bench.proofs.Steps.{from, step-beyond, step-halted, step-does}
 use borrow.Author.Needs.{needs}
 use Rattle.bench.proofs.walk.fit_step.Statement.{statement}

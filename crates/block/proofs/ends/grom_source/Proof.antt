@@ -6,15 +6,10 @@ use borrow.Author.Needs.{needs}
 use Rattle.block.proofs.ends.grom_source.Statement.{statement}
 use Rattle.block.proofs.ends.grom_source.Tie as tie
 
-next-word-requires : tie.Need-next-word-requires
-next-word-requires c κs = search needs
-
-indexed-requires : tie.Need-indexed-requires
-indexed-requires c κs = search needs
-
 returns : tie.Need-returns
 unfolding gromSource
 returns c = λ _. bind _ (c .before .next-word .ensures _) (bind _ (c .indexed .ensures _) (gives refl))
 
 pub grom-source-spec : {M : Type 1} → statement M
-grom-source-spec = tie.close (tie.spec next-word-requires indexed-requires returns)
+grom-source-spec =
+    tie.close (tie.spec (search needs) (search needs) returns)

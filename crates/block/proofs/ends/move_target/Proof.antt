@@ -4,21 +4,9 @@ use borrow.Author.Needs.{needs}
 use Rattle.block.proofs.ends.move_target.Statement.{statement}
 use Rattle.block.proofs.ends.move_target.Tie as tie
 
-register-cell-requires : tie.Need-register-cell-requires
-register-cell-requires c κs = search needs
-
 returns : tie.Need-returns
 unfolding moveTarget
 returns c = λ _. rw (c .before .if1 .taken) (c .register-cell .ensures _)
-
-place-target-requires : tie.Need-place-target-requires
-place-target-requires c κs = search needs
-
-same-length : tie.Need-same-length
-same-length c = search needs
-
-same-length-2 : tie.Need-same-length-2
-same-length-2 c = search needs
 
 returns-2 : tie.Need-returns-2
 unfolding moveTarget
@@ -28,11 +16,4 @@ returns-2 c =
 
 pub move-target-spec : {M : Type 1} → statement M
 move-target-spec =
-    tie.close
-    (tie.spec
-    register-cell-requires
-    returns
-    place-target-requires
-    same-length
-    same-length-2
-    returns-2)
+    tie.close (tie.spec (search needs) returns (search needs) (search needs) (search needs) returns-2)

@@ -5,27 +5,6 @@ use borrow.Author.Needs.{needs}
 use Rattle.block.proofs.screen.all.Statement.{statement}
 use Rattle.block.proofs.screen.all.Tie as tie
 
-next-byte-requires : tie.Need-next-byte-requires
-next-byte-requires c κs = search needs
-
-fill-requires : tie.Need-fill-requires
-fill-requires c κs = search needs
-
-poke-pad-requires : tie.Need-poke-pad-requires
-poke-pad-requires c κs = search needs
-
-poke-pad-requires-2 : tie.Need-poke-pad-requires-2
-poke-pad-requires-2 c κs = search needs
-
-same-length : tie.Need-same-length
-same-length c = search needs
-
-same-length-2 : tie.Need-same-length-2
-same-length-2 c = search needs
-
-same-length-3 : tie.Need-same-length-3
-same-length-3 c = search needs
-
 returns : tie.Need-returns
 unfolding allRule
 returns c =
@@ -38,13 +17,5 @@ returns c =
 
 pub all-spec : {M : Type 1} → statement M
 all-spec =
-    tie.close
-    (tie.spec
-    next-byte-requires
-    fill-requires
-    poke-pad-requires
-    poke-pad-requires-2
-    same-length
-    same-length-2
-    same-length-3
+    tie.close (tie.spec (search needs) (search needs) (search needs) (search needs) (search needs) (search needs) (search needs)
     returns)

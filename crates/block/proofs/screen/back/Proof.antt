@@ -5,18 +5,6 @@ use borrow.Author.Needs.{needs}
 use Rattle.block.proofs.screen.back.Statement.{statement}
 use Rattle.block.proofs.screen.back.Tie as tie
 
-next-byte-requires : tie.Need-next-byte-requires
-next-byte-requires c κs = search needs
-
-poke-reg-requires : tie.Need-poke-reg-requires
-poke-reg-requires c κs = search needs
-
-same-length : tie.Need-same-length
-same-length c = search needs
-
-same-length-2 : tie.Need-same-length-2
-same-length-2 c = search needs
-
 returns : tie.Need-returns
 unfolding backRule
 returns c =
@@ -25,4 +13,4 @@ returns c =
 
 pub back-spec : {M : Type 1} → statement M
 back-spec =
-    tie.close (tie.spec next-byte-requires poke-reg-requires same-length same-length-2 returns)
+    tie.close (tie.spec (search needs) (search needs) (search needs) (search needs) returns)

@@ -7,7 +7,7 @@ use lib.ListN.{length}
 use borrow.Author.Needs.{needs}
 use Rattle.rules.specs.Instructions.{fill}
 use Rattle.rules.proofs.Loops.{up, none-left, none-made}
-use Rattle.machine.specs.Said.{_&_, vramFrom, journalFrom, Leaves}
+use Rattle.machine.specs.Meaning.{_&_, vramFrom, journalFrom, Leaves}
 use Rattle.machine.proofs.Acts.{still}
 use Rattle.machine.proofs.Chain.{whole, turns, ends, over}
 use Rattle.block.proofs.Laws.{fills}
@@ -25,30 +25,13 @@ abbrev μ-loop : tie.MeasureT-loop
 loop-holds : tie.Need-loop-holds Inv-loop μ-loop
 loop-holds c = (λ _. whole (none-made (fills _) _ _), refl, refl, omega arith)
 
-add-a : tie.Need-add-a Inv-loop μ-loop
-add-a c = search needs
-
-poke-vdp-requires : tie.Need-poke-vdp-requires Inv-loop μ-loop
-poke-vdp-requires c κs = search needs
-
-same-length : tie.Need-same-length Inv-loop μ-loop
-same-length c = search needs
-
-same-length-2 : tie.Need-same-length-2 Inv-loop μ-loop
-same-length-2 c = search needs
-
 returns : tie.Need-returns Inv-loop μ-loop
 returns c =
     let at-poke-vdp = c .before .before .before .before .before .before in
     let at-loop-test = at-poke-vdp .before .before .before in
     let at-loop = at-loop-test .before in
-    λ _. ends (turns (at-loop .loop .inv .0 _) (up (fills _) (sym (add-assoc _ _ _)) (at-loop-test .loop-test .taken)) (at-poke-vdp .poke-vdp .ensures _)) (still (c .if1 .taken))
-
-add-done : tie.Need-add-done Inv-loop μ-loop
-add-done c = search needs
-
-loop-less : tie.Need-loop-less Inv-loop μ-loop
-loop-less c = search needs
+    λ _. ends (turns (at-loop .loop .inv .0 _) (up (fills _) (sym (add-assoc _ _ _)) (at-loop-test .loop-test .taken))
+    (at-poke-vdp .poke-vdp .ensures _)) (still (c .if1 .taken))
 
 loop-again : tie.Need-loop-again Inv-loop μ-loop
 loop-again c =
@@ -61,30 +44,10 @@ loop-again c =
       omega arith,
     )
 
-same-length-3 : tie.Need-same-length-3 Inv-loop μ-loop
-same-length-3 c = search needs
-
-same-length-4 : tie.Need-same-length-4 Inv-loop μ-loop
-same-length-4 c = search needs
-
 returns-2 : tie.Need-returns-2 Inv-loop μ-loop
 returns-2 c = λ _. over (c .before .loop .inv .0 _) (none-left (fills _) _ (omega arith))
 
 pub fill-spec : {M : Type 1} → statement M
 fill-spec =
-    tie.close
-    (tie.spec
-    Inv-loop
-    μ-loop
-    loop-holds
-    add-a
-    poke-vdp-requires
-    same-length
-    same-length-2
-    returns
-    add-done
-    loop-less
-    loop-again
-    same-length-3
-    same-length-4
-    returns-2)
+    tie.close (tie.spec Inv-loop μ-loop loop-holds (search needs) (search needs) (search needs) (search needs) returns
+    (search needs) (search needs) loop-again (search needs) (search needs) returns-2)

@@ -6,17 +6,18 @@ use lib.ListN.{length}
 use borrow.Author.Needs.{needs}
 use Rattle.rules.specs.Instructions.{moveBytes}
 use Rattle.rules.proofs.Loops.{up, none-left, none-made}
-use Rattle.machine.specs.Said.{_&_, imageFrom, padFrom, vramFrom, regsFrom, journalFrom, Leaves}
+use Rattle.machine.specs.Meaning.{_&_, imageFrom, padFrom, vramFrom, regsFrom, journalFrom, Leaves}
 use Rattle.machine.proofs.Chain.{whole, turns, ends, over}
 use Rattle.machine.proofs.Acts.{still}
-use Rattle.block.specs.Ends.{targetOf, originOf}
+use Rattle.block.specs.Meaning.{targetOf, originOf}
 use Rattle.block.proofs.Laws.{moves}
 use Rattle.block.proofs.whole.any_bytes.Statement.{statement}
 use Rattle.block.proofs.whole.any_bytes.Tie as tie
 
 abbrev Inv-loop : tie.InvT-loop
 Inv-loop image pad₀ vram₀ regs₀ journal₀ n from to x₀ k₀ pad vram regs journal x k =
-    Leaves (moveBytes n 0 (originOf from) (targetOf to)) (moveBytes (n - k) k (originOf from) (targetOf to)) (imageFrom image image & padFrom pad₀ pad & vramFrom vram₀ vram & regsFrom regs₀ regs & journalFrom journal₀ journal) x₀ x
+    Leaves (moveBytes n 0 (originOf from) (targetOf to)) (moveBytes (n - k) k (originOf from) (targetOf to))
+    (imageFrom image image & padFrom pad₀ pad & vramFrom vram₀ vram & regsFrom regs₀ regs & journalFrom journal₀ journal) x₀ x
     × (length pad ≡ length pad₀) × (length vram ≡ length vram₀) × (length regs ≡ length regs₀) × (length journal ≡ length journal₀) × (k ≤ n)
 
 abbrev μ-loop : tie.MeasureT-loop
@@ -25,74 +26,32 @@ abbrev μ-loop : tie.MeasureT-loop
 loop-holds : tie.Need-loop-holds Inv-loop μ-loop
 loop-holds c = (λ _. whole (none-made (moves _ _) _ 0), refl, refl, refl, refl, omega arith)
 
-move-byte-requires : tie.Need-move-byte-requires Inv-loop μ-loop
-move-byte-requires c κs = search needs
-
-same-length : tie.Need-same-length Inv-loop μ-loop
-same-length c = search needs
-
-same-length-2 : tie.Need-same-length-2 Inv-loop μ-loop
-same-length-2 c = search needs
-
-same-length-3 : tie.Need-same-length-3 Inv-loop μ-loop
-same-length-3 c = search needs
-
-same-length-4 : tie.Need-same-length-4 Inv-loop μ-loop
-same-length-4 c = search needs
-
 returns : tie.Need-returns Inv-loop μ-loop
 returns c =
     let at-move-byte = c .before .before .before .before .before .before .before .before .before .before in
     let at-loop-test = at-move-byte .before .before .before .before .before in
     let at-loop = at-loop-test .before in
-    λ _. ends (turns (at-loop .loop .inv .0 _) (up (moves _ _) refl (at-loop-test .loop-test .taken)) (at-move-byte .move-byte .ensures _)) (still (c .if1 .taken))
-
-add-k : tie.Need-add-k Inv-loop μ-loop
-add-k c = search needs
-
-loop-less : tie.Need-loop-less Inv-loop μ-loop
-loop-less c = search needs
+    λ _. ends (turns (at-loop .loop .inv .0 _) (up (moves _ _) refl (at-loop-test .loop-test .taken)) (at-move-byte .move-byte .ensures _))
+    (still (c .if1 .taken))
 
 loop-again : tie.Need-loop-again Inv-loop μ-loop
 loop-again c =
     let at-move-byte = c .before .before .before .before .before .before .before .before .before .before in
     let at-loop-test = at-move-byte .before .before .before .before .before in
-    let at-loop = at-loop-test .before in
-    (λ _. turns (at-loop .loop .inv .0 _) (up (moves _ _) refl (at-loop-test .loop-test .taken)) (at-move-byte .move-byte .ensures _), search needs, search needs, search needs, search needs, omega arith)
-
-same-length-5 : tie.Need-same-length-5 Inv-loop μ-loop
-same-length-5 c = search needs
-
-same-length-6 : tie.Need-same-length-6 Inv-loop μ-loop
-same-length-6 c = search needs
-
-same-length-7 : tie.Need-same-length-7 Inv-loop μ-loop
-same-length-7 c = search needs
-
-same-length-8 : tie.Need-same-length-8 Inv-loop μ-loop
-same-length-8 c = search needs
+    let at-loop = at-loop-test .before in (
+      λ _. turns (at-loop .loop .inv .0 _) (up (moves _ _) refl (at-loop-test .loop-test .taken))
+          (at-move-byte .move-byte .ensures _),
+      search needs,
+      search needs,
+      search needs,
+      search needs,
+      omega arith,
+    )
 
 returns-2 : tie.Need-returns-2 Inv-loop μ-loop
 returns-2 c = λ _. over (c .before .loop .inv .0 _) (none-left (moves _ _) _ (omega arith))
 
 pub any-bytes-spec : {M : Type 1} → statement M
 any-bytes-spec =
-    tie.close
-    (tie.spec
-    Inv-loop
-    μ-loop
-    loop-holds
-    move-byte-requires
-    same-length
-    same-length-2
-    same-length-3
-    same-length-4
-    returns
-    add-k
-    loop-less
-    loop-again
-    same-length-5
-    same-length-6
-    same-length-7
-    same-length-8
-    returns-2)
+    tie.close (tie.spec Inv-loop μ-loop loop-holds (search needs) (search needs) (search needs) (search needs) (search needs)
+    returns (search needs) (search needs) loop-again (search needs) (search needs) (search needs) (search needs) returns-2)

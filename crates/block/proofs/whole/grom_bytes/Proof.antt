@@ -8,7 +8,7 @@ use Rattle.rules.specs.Machine.{vdp}
 use Rattle.rules.specs.Operands.{cell}
 use Rattle.rules.specs.Instructions.{moveBytes, fromGrom}
 use Rattle.rules.proofs.Loops.{up, none-left, none-made}
-use Rattle.machine.specs.Said.{_&_, imageFrom, vramFrom, journalFrom, Leaves}
+use Rattle.machine.specs.Meaning.{_&_, imageFrom, vramFrom, journalFrom, Leaves}
 use Rattle.machine.proofs.Chain.{whole, turns, ends, over}
 use Rattle.machine.proofs.Acts.{still}
 use Rattle.block.proofs.Laws.{moves}
@@ -17,7 +17,8 @@ use Rattle.block.proofs.whole.grom_bytes.Tie as tie
 
 abbrev Inv-loop : tie.InvT-loop
 Inv-loop image vram₀ journal₀ n a t x₀ k₀ vram journal x k =
-    Leaves (moveBytes n 0 (fromGrom a) (cell vdp t)) (moveBytes (n - k) k (fromGrom a) (cell vdp t)) (imageFrom image image & vramFrom vram₀ vram & journalFrom journal₀ journal) x₀ x
+    Leaves (moveBytes n 0 (fromGrom a) (cell vdp t)) (moveBytes (n - k) k (fromGrom a) (cell vdp t))
+    (imageFrom image image & vramFrom vram₀ vram & journalFrom journal₀ journal) x₀ x
     × (length vram ≡ length vram₀) × (length journal ≡ length journal₀) × (k ≤ n)
 
 abbrev μ-loop : tie.MeasureT-loop
@@ -26,15 +27,6 @@ abbrev μ-loop : tie.MeasureT-loop
 loop-holds : tie.Need-loop-holds Inv-loop μ-loop
 loop-holds c = (λ _. whole (none-made (moves _ _) _ 0), refl, refl, omega arith)
 
-grom-to-vdp-requires : tie.Need-grom-to-vdp-requires Inv-loop μ-loop
-grom-to-vdp-requires c κs = search needs
-
-same-length : tie.Need-same-length Inv-loop μ-loop
-same-length c = search needs
-
-same-length-2 : tie.Need-same-length-2 Inv-loop μ-loop
-same-length-2 c = search needs
-
 returns : tie.Need-returns Inv-loop μ-loop
 returns c =
     let at-byte = c .before .before .before .before .before .before in
@@ -42,42 +34,22 @@ returns c =
     let at-loop = at-loop-test .before in
     λ _. ends (turns (at-loop .loop .inv .0 _) (up (moves _ _) refl (at-loop-test .loop-test .taken)) (at-byte .grom-to-vdp .ensures _)) (still (c .if1 .taken))
 
-add-k : tie.Need-add-k Inv-loop μ-loop
-add-k c = search needs
-
-loop-less : tie.Need-loop-less Inv-loop μ-loop
-loop-less c = search needs
-
 loop-again : tie.Need-loop-again Inv-loop μ-loop
 loop-again c =
     let at-byte = c .before .before .before .before .before .before in
     let at-loop-test = at-byte .before .before .before in
-    let at-loop = at-loop-test .before in
-    (λ _. turns (at-loop .loop .inv .0 _) (up (moves _ _) refl (at-loop-test .loop-test .taken)) (at-byte .grom-to-vdp .ensures _), search needs, search needs, omega arith)
-
-same-length-3 : tie.Need-same-length-3 Inv-loop μ-loop
-same-length-3 c = search needs
-
-same-length-4 : tie.Need-same-length-4 Inv-loop μ-loop
-same-length-4 c = search needs
+    let at-loop = at-loop-test .before in (
+      λ _. turns (at-loop .loop .inv .0 _) (up (moves _ _) refl (at-loop-test .loop-test .taken))
+          (at-byte .grom-to-vdp .ensures _),
+      search needs,
+      search needs,
+      omega arith,
+    )
 
 returns-2 : tie.Need-returns-2 Inv-loop μ-loop
 returns-2 c = λ _. over (c .before .loop .inv .0 _) (none-left (moves _ _) _ (omega arith))
 
 pub grom-bytes-spec : {M : Type 1} → statement M
 grom-bytes-spec =
-    tie.close
-    (tie.spec
-    Inv-loop
-    μ-loop
-    loop-holds
-    grom-to-vdp-requires
-    same-length
-    same-length-2
-    returns
-    add-k
-    loop-less
-    loop-again
-    same-length-3
-    same-length-4
-    returns-2)
+    tie.close (tie.spec Inv-loop μ-loop loop-holds (search needs) (search needs) (search needs) returns (search needs)
+    (search needs) loop-again (search needs) (search needs) returns-2)

@@ -5,28 +5,10 @@ use Prim.Native.Nat.{ℕ}
 use Rattle.rules.specs.Operands.{source}
 use Rattle.rules.specs.Instructions.{moveLength, moveTarget, moveSource, moveBytes, moveRule}
 use Rattle.machine.proofs.Chain.{seq, bind, via, via₂}
-use Rattle.block.specs.Ends.{targetOf, originOf}
+use Rattle.block.specs.Meaning.{targetOf, originOf}
 use borrow.Author.Needs.{needs}
 use Rattle.block.proofs.whole.move_block.Statement.{statement}
 use Rattle.block.proofs.whole.move_block.Tie as tie
-
-bit-requires : tie.Need-bit-requires
-bit-requires c κs = search needs
-
-bit-requires-2 : tie.Need-bit-requires-2
-bit-requires-2 c κs = search needs
-
-bit-requires-3 : tie.Need-bit-requires-3
-bit-requires-3 c κs = search needs
-
-bit-requires-4 : tie.Need-bit-requires-4
-bit-requires-4 c κs = search needs
-
-source-requires : tie.Need-source-requires
-source-requires c κs = search needs
-
-move-target-requires : tie.Need-move-target-requires
-move-target-requires c κs = search needs
 
 move-source-requires : tie.Need-move-source-requires
 move-source-requires c κs =
@@ -43,17 +25,18 @@ push-pc-requires c κs =
     let start = at-source .before .before .before .before .before .before .before .before .before .before .before .before .before in
     at-move-source .move-source .kept .1 .0 ∙ at-move-target .move-target .kept .1 .0 ∙ at-source .source .kept .1 .0 ∙ start .pre .0
 
-move-count-requires : tie.Need-move-count-requires
-move-count-requires c κs = search needs
-
 move-bytes-requires : tie.Need-move-bytes-requires
 move-bytes-requires c κs =
     let at-push-pc = c .before .before .before .before .before .before .before .before .before in
     let at-move-source = at-push-pc .before .before .before .before .before .before .before in
     let at-move-target = at-move-source .before .before .before .before .before .before .before in
     let at-source = at-move-target .before .before .before .before .before .before .before in
-    let start = at-source .before .before .before .before .before .before .before .before .before .before .before .before .before in
-    (at-push-pc .push-pc .kept .0 ∙ at-move-source .move-source .kept .1 .0 ∙ at-move-target .move-target .kept .1 .0 ∙ at-source .source .kept .1 .0 ∙ start .pre .0, start .pre .1, start .pre .2)
+    let start = at-source .before .before .before .before .before .before .before .before .before .before .before .before .before in (
+      at-push-pc .push-pc .kept .0 ∙ at-move-source .move-source .kept .1 .0 ∙ at-move-target .move-target .kept .1 .0
+          ∙ at-source .source .kept .1 .0 ∙ start .pre .0,
+      start .pre .1,
+      start .pre .2,
+    )
 
 pop-pc-requires : tie.Need-pop-pc-requires
 pop-pc-requires c κs =
@@ -73,14 +56,9 @@ same-length c =
     let at-move-source = at-push-pc .before .before .before .before .before .before .before in
     let at-move-target = at-move-source .before .before .before .before .before .before .before in
     let at-source = at-move-target .before .before .before .before .before .before .before in
-    c .before .before .before .before .pop-pc .kept .0 ∙ at-move-bytes .move-bytes .kept .1 .0 ∙ at-push-pc .push-pc .kept .0 ∙ at-move-source .move-source .kept .1 .0
+    c .before .before .before .before .pop-pc .kept .0 ∙ at-move-bytes .move-bytes .kept .1 .0 ∙ at-push-pc .push-pc .kept .0
+    ∙ at-move-source .move-source .kept .1 .0
     ∙ at-move-target .move-target .kept .1 .0 ∙ at-source .source .kept .1 .0
-
-same-length-2 : tie.Need-same-length-2
-same-length-2 c = search needs
-
-same-length-3 : tie.Need-same-length-3
-same-length-3 c = search needs
 
 same-length-4 : tie.Need-same-length-4
 same-length-4 c =
@@ -89,7 +67,8 @@ same-length-4 c =
     let at-move-source = at-push-pc .before .before .before .before .before .before .before in
     let at-move-target = at-move-source .before .before .before .before .before .before .before in
     let at-source = at-move-target .before .before .before .before .before .before .before in
-    c .before .before .before .before .pop-pc .kept .1 .0 ∙ at-move-bytes .move-bytes .kept .1 .1 .1 .1 .0 ∙ at-push-pc .push-pc .kept .1 .0 ∙ at-move-source .move-source .kept .1 .1 .0
+    c .before .before .before .before .pop-pc .kept .1 .0 ∙ at-move-bytes .move-bytes .kept .1 .1 .1 .1 .0 ∙ at-push-pc .push-pc .kept .1 .0
+    ∙ at-move-source .move-source .kept .1 .1 .0
     ∙ at-move-target .move-target .kept .1 .1 .0 ∙ at-source .source .kept .1 .1 .1 .0
 
 returns : tie.Need-returns
@@ -116,21 +95,6 @@ returns c =
 
 pub move-block-spec : {M : Type 1} → statement M
 move-block-spec =
-    tie.close
-    (tie.spec
-    bit-requires
-    bit-requires-2
-    bit-requires-3
-    bit-requires-4
-    source-requires
-    move-target-requires
-    move-source-requires
-    push-pc-requires
-    move-count-requires
-    move-bytes-requires
-    pop-pc-requires
-    same-length
-    same-length-2
-    same-length-3
-    same-length-4
-    returns)
+    tie.close (tie.spec (search needs) (search needs) (search needs) (search needs) (search needs) (search needs)
+    move-source-requires push-pc-requires (search needs) move-bytes-requires pop-pc-requires same-length (search needs)
+    (search needs) same-length-4 returns)

@@ -18,4 +18,5 @@ unfolding moveCount _also_
 returns-3 c = rw (le-leb _ _ (c .before .if1 .left), lt-leb _ _ (c .if2 .left))
 
 pub move-count-spec : {M : Type 1} → statement M
-move-count-spec = tie.close (tie.spec returns returns-2 returns-3)
+move-count-spec =
+    tie.close (tie.spec returns returns-2 returns-3)

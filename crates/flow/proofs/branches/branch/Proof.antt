@@ -7,33 +7,6 @@ use borrow.Author.Needs.{needs}
 use Rattle.flow.proofs.branches.branch.Statement.{statement}
 use Rattle.flow.proofs.branches.branch.Tie as tie
 
-next-byte-requires : tie.Need-next-byte-requires
-next-byte-requires c κs = search needs
-
-peek-pad-requires : tie.Need-peek-pad-requires
-peek-pad-requires c κs = search needs
-
-bit-requires : tie.Need-bit-requires
-bit-requires c κs = search needs
-
-word-of-requires : tie.Need-word-of-requires
-word-of-requires c κs = search needs
-
-taken-requires : tie.Need-taken-requires
-taken-requires c κs = search needs
-
-jump-if-requires : tie.Need-jump-if-requires
-jump-if-requires c κs = search needs
-
-set-condition-requires : tie.Need-set-condition-requires
-set-condition-requires c κs = search needs
-
-same-length : tie.Need-same-length
-same-length c = search needs
-
-same-length-2 : tie.Need-same-length-2
-same-length-2 c = search needs
-
 returns : tie.Need-returns
 unfolding branchRule
 returns c =
@@ -54,15 +27,5 @@ returns c =
 
 pub branch-spec : {M : Type 1} → statement M
 branch-spec =
-    tie.close
-    (tie.spec
-    next-byte-requires
-    peek-pad-requires
-    bit-requires
-    word-of-requires
-    taken-requires
-    jump-if-requires
-    set-condition-requires
-    same-length
-    same-length-2
-    returns)
+    tie.close (tie.spec (search needs) (search needs) (search needs) (search needs) (search needs) (search needs) (search needs)
+    (search needs) (search needs) returns)

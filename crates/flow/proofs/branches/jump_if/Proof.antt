@@ -5,9 +5,6 @@ use borrow.Author.Needs.{needs}
 use Rattle.flow.proofs.branches.jump_if.Statement.{statement}
 use Rattle.flow.proofs.branches.jump_if.Tie as tie
 
-jump-in-group-requires : tie.Need-jump-in-group-requires
-jump-in-group-requires c κs = search needs
-
 returns : tie.Need-returns
 unfolding jumpIf
 returns c = λ _. rw (c .before .if1 .taken) (c .jump-in-group .ensures _)
@@ -17,4 +14,5 @@ unfolding jumpIf
 returns-2 c = λ _. rw (c .if1 .left) idle
 
 pub jump-if-spec : {M : Type 1} → statement M
-jump-if-spec = tie.close (tie.spec jump-in-group-requires returns returns-2)
+jump-if-spec =
+    tie.close (tie.spec (search needs) returns returns-2)

@@ -7,12 +7,6 @@ use borrow.Author.Needs.{needs}
 use Rattle.flow.proofs.branches.jump_in_group.Statement.{statement}
 use Rattle.flow.proofs.branches.jump_in_group.Tie as tie
 
-in-group-requires : tie.Need-in-group-requires
-in-group-requires c κs = search needs
-
-jump-requires : tie.Need-jump-requires
-jump-requires c κs = search needs
-
 returns : tie.Need-returns
 unfolding jumpInGroup
 returns c =
@@ -20,4 +14,5 @@ returns c =
     bind _ here-is (via goto (c .before .in-group .ensures) (c .jump .ensures _))
 
 pub jump-in-group-spec : {M : Type 1} → statement M
-jump-in-group-spec = tie.close (tie.spec in-group-requires jump-requires returns)
+jump-in-group-spec =
+    tie.close (tie.spec (search needs) (search needs) returns)

@@ -11,4 +11,5 @@ returns-2 : tie.Need-returns-2
 returns-2 c = rw (c .if1 .left) (other (c .before .args .condition))
 
 pub taken-spec : {M : Type 1} → statement M
-taken-spec = tie.close (tie.spec returns returns-2)
+taken-spec =
+    tie.close (tie.spec returns returns-2)

@@ -10,26 +10,8 @@ use borrow.Author.Needs.{needs}
 use Rattle.flow.proofs.operands.case.Statement.{statement}
 use Rattle.flow.proofs.operands.case.Tie as tie
 
-operand-value-requires : tie.Need-operand-value-requires
-operand-value-requires c κs = search needs
-
 extended-requires : tie.Need-extended-requires
 extended-requires c κs = c .before .before .before .before .operand-value .ensures .0
-
-case-target-requires : tie.Need-case-target-requires
-case-target-requires c κs = search needs
-
-jump-requires : tie.Need-jump-requires
-jump-requires c κs = search needs
-
-set-condition-requires : tie.Need-set-condition-requires
-set-condition-requires c κs = search needs
-
-same-length : tie.Need-same-length
-same-length c = search needs
-
-same-length-2 : tie.Need-same-length-2
-same-length-2 c = search needs
 
 returns : tie.Need-returns
 unfolding caseRule
@@ -41,18 +23,11 @@ returns c =
     λ _.
     let pc = at-operand-value .operand-value .result .pc in
     bind _ (at-operand-value .operand-value .ensures .1 _) (bind _ here-is
-    (seq (via goto (at-case-target .case-target .ensures ∙ ap (λ (x : ℕ). inGroup pc (pc % group + 2 * x)) (at-extended .extended .ensures)) (at-jump .jump .ensures _))
+    (seq (via goto (at-case-target .case-target .ensures ∙ ap (λ (x : ℕ). inGroup pc (pc % group + 2 * x)) (at-extended .extended .ensures))
+    (at-jump .jump .ensures _))
     (c .before .before .before .before .set-condition .ensures _)))
 
 pub case-spec : {M : Type 1} → statement M
 case-spec =
-    tie.close
-    (tie.spec
-    operand-value-requires
-    extended-requires
-    case-target-requires
-    jump-requires
-    set-condition-requires
-    same-length
-    same-length-2
-    returns)
+    tie.close (tie.spec (search needs) extended-requires (search needs) (search needs) (search needs) (search needs)
+    (search needs) returns)

@@ -9,9 +9,6 @@ use borrow.Author.Needs.{needs}
 use Rattle.flow.proofs.operands.fetch.Statement.{statement}
 use Rattle.flow.proofs.operands.fetch.Tie as tie
 
-read-target-requires : tie.Need-read-target-requires
-read-target-requires c κs = search needs
-
 peek-pad-requires : tie.Need-peek-pad-requires
 peek-pad-requires c κs =
     let at-read-target = c .before .before .before .before .before .before in
@@ -31,23 +28,17 @@ poke-pad-requires c κs =
     let start = at-read-target .before .before .before .before .before .before .before .before in
     at-push-pc .push-pc .kept .0 ∙ at-read-target .read-target .kept .1 .0 ∙ start .pre .0
 
-cast-at : tie.Need-cast-at
-cast-at c = search needs
-
 peek-pad-word-requires : tie.Need-peek-pad-word-requires
 peek-pad-word-requires c κs =
     let at-poke-pad = c .before .before .before .before .before .before in
     let at-push-pc = at-poke-pad .before .before .before .before .before .before .before in
     let at-peek-pad = at-push-pc .before .before .before in
     let at-read-target = at-peek-pad .before .before .before .before .before .before .before in
-    let start = at-read-target .before .before .before .before .before .before .before .before in
-    (at-poke-pad .poke-pad .kept .0 ∙ at-push-pc .push-pc .kept .0 ∙ at-read-target .read-target .kept .1 .0 ∙ start .pre .0, omega (arith, at-peek-pad .peek-pad .ok))
-
-grom-byte-requires : tie.Need-grom-byte-requires
-grom-byte-requires c κs = search needs
-
-plus-requires : tie.Need-plus-requires
-plus-requires c κs = search needs
+    let start = at-read-target .before .before .before .before .before .before .before .before in (
+      at-poke-pad .poke-pad .kept .0 ∙ at-push-pc .push-pc .kept .0 ∙ at-read-target .read-target .kept .1 .0
+          ∙ start .pre .0,
+      omega (arith, at-peek-pad .peek-pad .ok),
+    )
 
 poke-pad-word-requires : tie.Need-poke-pad-word-requires
 poke-pad-word-requires c κs =
@@ -55,11 +46,11 @@ poke-pad-word-requires c κs =
     let at-push-pc = at-poke-pad .before .before .before .before .before .before .before in
     let at-peek-pad = at-push-pc .before .before .before in
     let at-read-target = at-peek-pad .before .before .before .before .before .before .before in
-    let start = at-read-target .before .before .before .before .before .before .before .before in
-    (at-poke-pad .poke-pad .kept .0 ∙ at-push-pc .push-pc .kept .0 ∙ at-read-target .read-target .kept .1 .0 ∙ start .pre .0, omega (arith, at-peek-pad .peek-pad .ok))
-
-fetched-requires : tie.Need-fetched-requires
-fetched-requires c κs = search needs
+    let start = at-read-target .before .before .before .before .before .before .before .before in (
+      at-poke-pad .poke-pad .kept .0 ∙ at-push-pc .push-pc .kept .0 ∙ at-read-target .read-target .kept .1 .0
+          ∙ start .pre .0,
+      omega (arith, at-peek-pad .peek-pad .ok),
+    )
 
 result-requires : tie.Need-result-requires
 result-requires c κs =
@@ -67,8 +58,11 @@ result-requires c κs =
     let at-poke-pad = at-poke-pad-word .before .before .before .before .before .before .before .before .before .before .before .before in
     let at-push-pc = at-poke-pad .before .before .before .before .before .before .before in
     let at-read-target = at-push-pc .before .before .before .before .before .before .before .before .before .before in
-    let start = at-read-target .before .before .before .before .before .before .before .before in
-    (at-poke-pad-word .poke-pad-word .kept .0 ∙ at-poke-pad .poke-pad .kept .0 ∙ at-push-pc .push-pc .kept .0 ∙ at-read-target .read-target .kept .1 .0 ∙ start .pre .0, start .pre .1)
+    let start = at-read-target .before .before .before .before .before .before .before .before in (
+      at-poke-pad-word .poke-pad-word .kept .0 ∙ at-poke-pad .poke-pad .kept .0 ∙ at-push-pc .push-pc .kept .0
+          ∙ at-read-target .read-target .kept .1 .0 ∙ start .pre .0,
+      start .pre .1,
+    )
 
 same-length : tie.Need-same-length
 same-length c =
@@ -77,10 +71,8 @@ same-length c =
     let at-poke-pad = at-poke-pad-word .before .before .before .before .before .before .before .before .before .before .before .before in
     let at-push-pc = at-poke-pad .before .before .before .before .before .before .before in
     let at-read-target = at-push-pc .before .before .before .before .before .before .before .before .before .before in
-    at-result .result .kept .0 ∙ at-poke-pad-word .poke-pad-word .kept .0 ∙ at-poke-pad .poke-pad .kept .0 ∙ at-push-pc .push-pc .kept .0 ∙ at-read-target .read-target .kept .1 .0
-
-same-length-2 : tie.Need-same-length-2
-same-length-2 c = search needs
+    at-result .result .kept .0 ∙ at-poke-pad-word .poke-pad-word .kept .0 ∙ at-poke-pad .poke-pad .kept .0 ∙ at-push-pc .push-pc .kept .0
+    ∙ at-read-target .read-target .kept .1 .0
 
 same-length-3 : tie.Need-same-length-3
 same-length-3 c =
@@ -89,7 +81,8 @@ same-length-3 c =
     let at-poke-pad = at-poke-pad-word .before .before .before .before .before .before .before .before .before .before .before .before in
     let at-push-pc = at-poke-pad .before .before .before .before .before .before .before in
     let at-read-target = at-push-pc .before .before .before .before .before .before .before .before .before .before in
-    at-result .result .kept .1 .1 .0 ∙ at-poke-pad-word .poke-pad-word .kept .1 .0 ∙ at-poke-pad .poke-pad .kept .1 .0 ∙ at-push-pc .push-pc .kept .1 .0 ∙ at-read-target .read-target .kept .1 .1 .1 .0
+    at-result .result .kept .1 .1 .0 ∙ at-poke-pad-word .poke-pad-word .kept .1 .0 ∙ at-poke-pad .poke-pad .kept .1 .0
+    ∙ at-push-pc .push-pc .kept .1 .0 ∙ at-read-target .read-target .kept .1 .1 .1 .0
 
 returns : tie.Need-returns
 unfolding fetchRule
@@ -113,20 +106,6 @@ returns c =
 
 pub fetch-spec : {M : Type 1} → statement M
 fetch-spec =
-    tie.close
-    (tie.spec
-    read-target-requires
-    peek-pad-requires
-    push-pc-requires
-    poke-pad-requires
-    cast-at
-    peek-pad-word-requires
-    grom-byte-requires
-    plus-requires
-    poke-pad-word-requires
-    fetched-requires
-    result-requires
-    same-length
-    same-length-2
-    same-length-3
+    tie.close (tie.spec (search needs) peek-pad-requires push-pc-requires poke-pad-requires (search needs) peek-pad-word-requires
+    (search needs) (search needs) poke-pad-word-requires (search needs) result-requires same-length (search needs) same-length-3
     returns)

@@ -13,4 +13,5 @@ returns-2 : tie.Need-returns-2
 returns-2 c = rw (c .if1 .left)
 
 pub fetched-spec : {M : Type 1} → statement M
-fetched-spec = tie.close (tie.spec extended-requires returns returns-2)
+fetched-spec =
+    tie.close (tie.spec extended-requires returns returns-2)

@@ -9,38 +9,11 @@ use borrow.Author.Needs.{needs}
 use Rattle.flow.proofs.operands.push.Statement.{statement}
 use Rattle.flow.proofs.operands.push.Tie as tie
 
-operand-value-requires : tie.Need-operand-value-requires
-operand-value-requires c κs = search needs
-
-peek-pad-requires : tie.Need-peek-pad-requires
-peek-pad-requires c κs = search needs
-
-cast-up : tie.Need-cast-up
-cast-up c = search needs
-
-add-up : tie.Need-add-up
-add-up c = search needs
-
-on-data-stack-requires : tie.Need-on-data-stack-requires
-on-data-stack-requires c κs = search needs
-
-need-requires : tie.Need-need-requires
-need-requires c κs = search needs
-
-cast-b : tie.Need-cast-b
-cast-b c = search needs
-
 poke-pad-requires : tie.Need-poke-pad-requires
 poke-pad-requires c κs =
     let at-operand-value = c .before .before .before .before .before .before .before .before .before .before .before in
     let start = at-operand-value .before .before .before .before .before .before .before in
     at-operand-value .operand-value .kept .1 .0 ∙ start .pre .0
-
-cast-at : tie.Need-cast-at
-cast-at c = search needs
-
-low-of-requires : tie.Need-low-of-requires
-low-of-requires c κs = search needs
 
 poke-pad-requires-2 : tie.Need-poke-pad-requires-2
 poke-pad-requires-2 c κs =
@@ -78,19 +51,5 @@ returns c =
 
 pub push-spec : {M : Type 1} → statement M
 push-spec =
-    tie.close
-    (tie.spec
-    operand-value-requires
-    peek-pad-requires
-    cast-up
-    add-up
-    on-data-stack-requires
-    need-requires
-    cast-b
-    poke-pad-requires
-    cast-at
-    low-of-requires
-    poke-pad-requires-2
-    same-length
-    same-length-2
-    returns)
+    tie.close (tie.spec (search needs) (search needs) (search needs) (search needs) (search needs) (search needs) (search needs)
+    poke-pad-requires (search needs) (search needs) poke-pad-requires-2 same-length same-length-2 returns)

@@ -11,30 +11,6 @@ use borrow.Author.Needs.{needs}
 use Rattle.flow.proofs.random.rand.Statement.{statement}
 use Rattle.flow.proofs.random.rand.Tie as tie
 
-peek-pad-word-requires : tie.Need-peek-pad-word-requires
-peek-pad-word-requires c κs = search needs
-
-next-seed-requires : tie.Need-next-seed-requires
-next-seed-requires c κs = search needs
-
-poke-pad-word-requires : tie.Need-poke-pad-word-requires
-poke-pad-word-requires c κs = search needs
-
-next-byte-requires : tie.Need-next-byte-requires
-next-byte-requires c κs = search needs
-
-random-of-requires : tie.Need-random-of-requires
-random-of-requires c κs = search needs
-
-poke-pad-requires : tie.Need-poke-pad-requires
-poke-pad-requires c κs = search needs
-
-same-length : tie.Need-same-length
-same-length c = search needs
-
-same-length-2 : tie.Need-same-length-2
-same-length-2 c = search needs
-
 returns : tie.Need-returns
 unfolding randRule
 returns c =
@@ -51,14 +27,5 @@ returns c =
 
 pub rand-spec : {M : Type 1} → statement M
 rand-spec =
-    tie.close
-    (tie.spec
-    peek-pad-word-requires
-    next-seed-requires
-    poke-pad-word-requires
-    next-byte-requires
-    random-of-requires
-    poke-pad-requires
-    same-length
-    same-length-2
-    returns)
+    tie.close (tie.spec (search needs) (search needs) (search needs) (search needs) (search needs) (search needs) (search needs)
+    (search needs) returns)

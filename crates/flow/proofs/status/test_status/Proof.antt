@@ -10,42 +10,17 @@ use borrow.Author.Needs.{needs}
 use Rattle.flow.proofs.status.test_status.Statement.{statement}
 use Rattle.flow.proofs.status.test_status.Tie as tie
 
-peek-pad-requires : tie.Need-peek-pad-requires
-peek-pad-requires c κs = search needs
-
-tested-requires : tie.Need-tested-requires
-tested-requires c κs = search needs
-
-with-condition-requires : tie.Need-with-condition-requires
-with-condition-requires c κs = search needs
-
-poke-pad-requires : tie.Need-poke-pad-requires
-poke-pad-requires c κs = search needs
-
-same-length : tie.Need-same-length
-same-length c = search needs
-
-same-length-2 : tie.Need-same-length-2
-same-length-2 c = search needs
-
 returns : tie.Need-returns
 unfolding testRule
 returns c =
     let at-with-condition = c .before .before .before .before .before .before .before in
     let at-tested = at-with-condition .before in
     let at-peek-pad = at-tested .before in
-    let made = at-with-condition .with-condition .ensures ∙ ap (λ (x : Bool). withCondition x (at-peek-pad .peek-pad .result .byte)) (at-tested .tested .ensures) in
+    let made = at-with-condition .with-condition .ensures
+    ∙ ap (λ (x : Bool). withCondition x (at-peek-pad .peek-pad .result .byte)) (at-tested .tested .ensures) in
     λ _.
     bind _ (at-peek-pad .peek-pad .ensures _) (via (poke cpu _) made (c .before .before .before .before .poke-pad .ensures _))
 
 pub test-status-spec : {M : Type 1} → statement M
 test-status-spec =
-    tie.close
-    (tie.spec
-    peek-pad-requires
-    tested-requires
-    with-condition-requires
-    poke-pad-requires
-    same-length
-    same-length-2
-    returns)
+    tie.close (tie.spec (search needs) (search needs) (search needs) (search needs) (search needs) (search needs) returns)

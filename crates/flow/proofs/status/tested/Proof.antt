@@ -4,30 +4,6 @@ use borrow.Author.Needs.{needs}
 use Rattle.flow.proofs.status.tested.Statement.{statement}
 use Rattle.flow.proofs.status.tested.Tie as tie
 
-enum-told : tie.Need-enum-told
-enum-told c = search needs
-
-bit-requires : tie.Need-bit-requires
-bit-requires c κs = search needs
-
-enum-told-2 : tie.Need-enum-told-2
-enum-told-2 c = search needs
-
-bit-requires-2 : tie.Need-bit-requires-2
-bit-requires-2 c κs = search needs
-
-enum-told-3 : tie.Need-enum-told-3
-enum-told-3 c = search needs
-
-bit-requires-3 : tie.Need-bit-requires-3
-bit-requires-3 c κs = search needs
-
-enum-told-4 : tie.Need-enum-told-4
-enum-told-4 c = search needs
-
-bit-requires-4 : tie.Need-bit-requires-4
-bit-requires-4 c κs = search needs
-
 returns : tie.Need-returns
 unfolding tested
 returns c = rw (c .before .enum-told .given .1) (c .bit .ensures)
@@ -46,17 +22,5 @@ returns-4 c = rw (c .before .enum-told4 .given .1) (c .bit4 .ensures)
 
 pub tested-spec : {M : Type 1} → statement M
 tested-spec =
-    tie.close
-    (tie.spec
-    enum-told
-    bit-requires
-    enum-told-2
-    bit-requires-2
-    enum-told-3
-    bit-requires-3
-    enum-told-4
-    bit-requires-4
-    returns
-    returns-2
-    returns-3
-    returns-4)
+    tie.close (tie.spec (search needs) (search needs) (search needs) (search needs) (search needs) (search needs) (search needs)
+    (search needs) returns returns-2 returns-3 returns-4)

@@ -1,47 +1,16 @@
--- By the code's range: text, the two skips, and the rest.
+-- By the code's row: text, the two skips, a block, and the last row.
 use native.Mathlib.Omega.{arith}
-use borrow.Author.Tests.{lt-ltb, le-ltb}
 use Rattle.rules.specs.Format.{goOn}
 use Rattle.machine.proofs.Chain.{seq, by-rule}
-use Rattle.format.proofs.Laws.{code-text, code-further}
+use Rattle.format.proofs.Laws.{row}
 use borrow.Author.Needs.{needs}
 use Rattle.format.proofs.codes.by_code.Statement.{statement}
 use Rattle.format.proofs.codes.by_code.Tie as tie
 
-count-of-requires : tie.Need-count-of-requires
-count-of-requires c κs = search needs
-
-text-code-requires : tie.Need-text-code-requires
-text-code-requires c κs = search needs
-
-same-length : tie.Need-same-length
-same-length c = search needs
-
-same-length-2 : tie.Need-same-length-2
-same-length-2 c = search needs
-
-same-length-3 : tie.Need-same-length-3
-same-length-3 c = search needs
-
 returns : tie.Need-returns
 returns c =
     let at-text-code = c .before .before .before .before .before .before in
-    let at-if1 = at-text-code .before .before .before .before in (
-      at-text-code .text-code .ensures .0,
-      λ _. by-rule (code-text _ _ _ (at-if1 .if1 .taken)) (at-text-code .text-code .ensures .1 _),
-    )
-
-skip-requires : tie.Need-skip-requires
-skip-requires c κs = search needs
-
-go-on-requires : tie.Need-go-on-requires
-go-on-requires c κs = search needs
-
-same-length-4 : tie.Need-same-length-4
-same-length-4 c = search needs
-
-same-length-5 : tie.Need-same-length-5
-same-length-5 c = search needs
+    (at-text-code .text-code .ensures .0, λ _. at-text-code .text-code .ensures .1 _)
 
 returns-2 : tie.Need-returns-2
 unfolding goOn
@@ -51,24 +20,9 @@ returns-2 c =
     let at-if1 = at-if2 .before in
     let at-count-of = at-if1 .before in (
       omega (arith, c .go-on .ensures .0),
-      λ _. rw (code-further _ _ _ (at-if1 .if1 .left), lt-ltb _ _ (at-if2 .if2 .taken), ← at-count-of .count-of .ensures)
-          (seq (at-skip .skip .ensures _) (c .go-on .ensures .1 _)),
+      λ _. by-rule (row 4 _ _ (at-if2 .if2 .taken) (at-if1 .if1 .left))
+          (rw (← at-count-of .count-of .ensures) (seq (at-skip .skip .ensures _) (c .go-on .ensures .1 _))),
     )
-
-mul-cells : tie.Need-mul-cells
-mul-cells c = search needs
-
-skip-requires-2 : tie.Need-skip-requires-2
-skip-requires-2 c κs = search needs
-
-go-on-requires-2 : tie.Need-go-on-requires-2
-go-on-requires-2 c κs = search needs
-
-same-length-6 : tie.Need-same-length-6
-same-length-6 c = search needs
-
-same-length-7 : tie.Need-same-length-7
-same-length-7 c = search needs
 
 returns-3 : tie.Need-returns-3
 unfolding goOn
@@ -76,58 +30,32 @@ returns-3 c =
     let at-skip2 = c .before .before .before .before .before in
     let at-if3 = at-skip2 .before .before .before in
     let at-if2 = at-if3 .before in
-    let at-if1 = at-if2 .before in
-    let at-count-of = at-if1 .before in (
+    let at-count-of = at-if2 .before .before in (
       omega (arith, c .go-on2 .ensures .0),
-      λ _. rw (code-further _ _ _ (at-if1 .if1 .left), le-ltb _ _ (at-if2 .if2 .left), lt-ltb _ _ (at-if3 .if3 .taken), ← at-count-of .count-of .ensures)
-          (seq (at-skip2 .skip2 .ensures _) (c .go-on2 .ensures .1 _)),
+      λ _. by-rule (row 5 _ _ (at-if3 .if3 .taken) (at-if2 .if2 .left))
+          (rw (← at-count-of .count-of .ensures) (seq (at-skip2 .skip2 .ensures _) (c .go-on2 .ensures .1 _))),
     )
-
-high-code-requires : tie.Need-high-code-requires
-high-code-requires c κs = search needs
-
-same-length-8 : tie.Need-same-length-8
-same-length-8 c = search needs
-
-same-length-9 : tie.Need-same-length-9
-same-length-9 c = search needs
-
-same-length-10 : tie.Need-same-length-10
-same-length-10 c = search needs
 
 returns-4 : tie.Need-returns-4
 returns-4 c =
-    let at-high-code = c .before .before .before .before .before .before in
-    let at-if3 = at-high-code .before .before .before .before in
-    let at-if2 = at-if3 .before in
-    let at-if1 = at-if2 .before in (
-      at-high-code .high-code .ensures .0,
-      λ _. rw (code-further _ _ _ (at-if1 .if1 .left), le-ltb _ _ (at-if2 .if2 .left), le-ltb _ _ (at-if3 .if3 .left)) (at-high-code .high-code .ensures .1 _),
+    let at-if4 = c .before .before .before .before .before .before .before in
+    let at-if3 = at-if4 .before in
+    let at-count-of = at-if3 .before .before .before in (
+      c .before .before .before .before .open-block .ensures .0,
+      λ _. by-rule (row 6 _ _ (at-if4 .if4 .taken) (at-if3 .if3 .left))
+          (rw (← at-count-of .count-of .ensures) (c .before .before .before .before .open-block .ensures .1 _)),
     )
+
+returns-5 : tie.Need-returns-5
+returns-5 c =
+    let at-last-row = c .before .before .before .before .before .before in
+    let at-if4 = at-last-row .before .before .before .before in
+    let start = at-if4 .before .before .before .before .before .before .before .before .before in
+    (at-last-row .last-row .ensures .0, λ _. by-rule (row 7 _ _ (start .fits .c .fits) (at-if4 .if4 .left)) (at-last-row .last-row .ensures .1 _))
 
 pub by-code-spec : {M : Type 1} → statement M
 by-code-spec =
-    tie.close
-    (tie.spec
-    count-of-requires
-    text-code-requires
-    same-length
-    same-length-2
-    same-length-3
-    returns
-    skip-requires
-    go-on-requires
-    same-length-4
-    same-length-5
-    returns-2
-    mul-cells
-    skip-requires-2
-    go-on-requires-2
-    same-length-6
-    same-length-7
-    returns-3
-    high-code-requires
-    same-length-8
-    same-length-9
-    same-length-10
-    returns-4)
+    tie.close (tie.spec (search needs) (search needs) (search needs) (search needs) (search needs) returns (search needs)
+    (search needs) (search needs) (search needs) returns-2 (search needs) (search needs) (search needs) (search needs)
+    (search needs) returns-3 (search needs) (search needs) (search needs) returns-4 (search needs) (search needs) (search needs)
+    (search needs) returns-5)

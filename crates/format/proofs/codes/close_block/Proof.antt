@@ -8,24 +8,6 @@ use borrow.Author.Needs.{needs}
 use Rattle.format.proofs.codes.close_block.Statement.{statement}
 use Rattle.format.proofs.codes.close_block.Tie as tie
 
-lowered-requires : tie.Need-lowered-requires
-lowered-requires c κs = search needs
-
-poke-pad-requires : tie.Need-poke-pad-requires
-poke-pad-requires c κs = search needs
-
-sub-fewer : tie.Need-sub-fewer
-sub-fewer c = search needs
-
-go-on-requires : tie.Need-go-on-requires
-go-on-requires c κs = search needs
-
-same-length : tie.Need-same-length
-same-length c = search needs
-
-same-length-2 : tie.Need-same-length-2
-same-length-2 c = search needs
-
 returns : tie.Need-returns
 unfolding closeBlock
 returns c =
@@ -37,12 +19,4 @@ returns c =
 
 pub close-block-spec : {M : Type 1} → statement M
 close-block-spec =
-    tie.close
-    (tie.spec
-    lowered-requires
-    poke-pad-requires
-    sub-fewer
-    go-on-requires
-    same-length
-    same-length-2
-    returns)
+    tie.close (tie.spec (search needs) (search needs) (search needs) (search needs) (search needs) (search needs) returns)

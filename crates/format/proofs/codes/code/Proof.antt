@@ -5,21 +5,6 @@ use borrow.Author.Needs.{needs}
 use Rattle.format.proofs.codes.code.Statement.{statement}
 use Rattle.format.proofs.codes.code.Tie as tie
 
-next-byte-requires : tie.Need-next-byte-requires
-next-byte-requires c κs = search needs
-
-by-code-requires : tie.Need-by-code-requires
-by-code-requires c κs = search needs
-
-same-length : tie.Need-same-length
-same-length c = search needs
-
-same-length-2 : tie.Need-same-length-2
-same-length-2 c = search needs
-
-same-length-3 : tie.Need-same-length-3
-same-length-3 c = search needs
-
 returns : tie.Need-returns
 unfolding code
 returns c =
@@ -29,5 +14,4 @@ returns c =
 
 pub code-spec : {M : Type 1} → statement M
 code-spec =
-    tie.close
-    (tie.spec next-byte-requires by-code-requires same-length same-length-2 same-length-3 returns)
+    tie.close (tie.spec (search needs) (search needs) (search needs) (search needs) (search needs) returns)

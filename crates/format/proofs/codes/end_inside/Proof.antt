@@ -9,35 +9,11 @@ use borrow.Author.Needs.{needs}
 use Rattle.format.proofs.codes.end_inside.Statement.{statement}
 use Rattle.format.proofs.codes.end_inside.Tie as tie
 
-next-word-requires : tie.Need-next-word-requires
-next-word-requires c κs = search needs
-
-peek-pad-requires : tie.Need-peek-pad-requires
-peek-pad-requires c κs = search needs
-
-cast-at : tie.Need-cast-at
-cast-at c = search needs
-
-peek-pad-requires-2 : tie.Need-peek-pad-requires-2
-peek-pad-requires-2 c κs = search needs
-
-wrapping-add-u8-requires : tie.Need-wrapping-add-u8-requires
-wrapping-add-u8-requires c κs = search needs
-
-poke-pad-requires : tie.Need-poke-pad-requires
-poke-pad-requires c κs = search needs
-
 block-turn-requires : tie.Need-block-turn-requires
 block-turn-requires c κs =
     let at-poke-pad = c .before .before .before .before .before .before in
     let start = at-poke-pad .before .before .before .before .before .before .before .before .before .before .before .before .before in
     (at-poke-pad .poke-pad .kept .0 ∙ start .pre .0, start .pre .1)
-
-same-length : tie.Need-same-length
-same-length c = search needs
-
-same-length-2 : tie.Need-same-length-2
-same-length-2 c = search needs
 
 returns : tie.Need-returns
 unfolding endInside
@@ -61,15 +37,5 @@ returns c =
 
 pub end-inside-spec : {M : Type 1} → statement M
 end-inside-spec =
-    tie.close
-    (tie.spec
-    next-word-requires
-    peek-pad-requires
-    cast-at
-    peek-pad-requires-2
-    wrapping-add-u8-requires
-    poke-pad-requires
-    block-turn-requires
-    same-length
-    same-length-2
-    returns)
+    tie.close (tie.spec (search needs) (search needs) (search needs) (search needs) (search needs) (search needs)
+    block-turn-requires (search needs) (search needs) returns)

@@ -7,7 +7,7 @@ use borrow.Author.Needs.{needs}
 use borrow.Author.Tests.{not-true, not-false}
 use Rattle.rules.specs.Answers.{tooLong}
 use Rattle.rules.specs.Format.{on, codes, fmtRule}
-use Rattle.machine.specs.Said.{_&_, imageFrom, padFrom, vramFrom, journalFrom, Leaves}
+use Rattle.machine.specs.Meaning.{_&_, imageFrom, padFrom, vramFrom, journalFrom, Leaves}
 use Rattle.machine.proofs.Chain.{by-rule, whole, further, ends, turns-with, over}
 use Rattle.machine.proofs.Acts.{still}
 use Rattle.format.proofs.Laws.{codes-turn, codes-on, codes-over, codes-out}
@@ -16,7 +16,8 @@ use Rattle.format.proofs.codes.format.Tie as tie
 
 abbrev Inv-loop : tie.InvT-loop
 Inv-loop image pad₀ vram₀ journal₀ x₀ bias₀ blocks₀ left₀ pad vram journal x bias blocks left =
-    Leaves (codes left₀ (on bias₀ blocks₀)) (codes left (on bias blocks)) (imageFrom image image & padFrom pad₀ pad & vramFrom vram₀ vram & journalFrom journal₀ journal) x₀ x
+    Leaves (codes left₀ (on bias₀ blocks₀)) (codes left (on bias blocks))
+    (imageFrom image image & padFrom pad₀ pad & vramFrom vram₀ vram & journalFrom journal₀ journal) x₀ x
     × (length pad ≡ length pad₀) × (length vram ≡ length vram₀) × (length journal ≡ length journal₀) × (blocks + left ≤ 16384)
 
 abbrev μ-loop : tie.MeasureT-loop
@@ -25,34 +26,14 @@ abbrev μ-loop : tie.MeasureT-loop
 loop-holds : tie.Need-loop-holds Inv-loop μ-loop
 loop-holds c = (λ _. whole refl, refl, refl, refl, omega arith)
 
-code-requires : tie.Need-code-requires Inv-loop μ-loop
-code-requires c κs = search needs
-
-same-length : tie.Need-same-length Inv-loop μ-loop
-same-length c = search needs
-
-same-length-2 : tie.Need-same-length-2 Inv-loop μ-loop
-same-length-2 c = search needs
-
-same-length-3 : tie.Need-same-length-3 Inv-loop μ-loop
-same-length-3 c = search needs
-
 returns : tie.Need-returns Inv-loop μ-loop
 unfolding fmtRule
 returns c =
     let at-code = c .before .before .before .before .before .before .before .before .before in
     let at-loop-test = at-code .before .before .before .before in
     let at-loop = at-loop-test .before in
-    λ _. ends (turns-with (codes _) (at-loop .loop .inv .0 _) (codes-turn _ _ (at-loop-test .loop-test .taken)) (at-code .code .ensures .1 _)) (still (c .if1 .taken))
-
-same-length-4 : tie.Need-same-length-4 Inv-loop μ-loop
-same-length-4 c = search needs
-
-same-length-5 : tie.Need-same-length-5 Inv-loop μ-loop
-same-length-5 c = search needs
-
-same-length-6 : tie.Need-same-length-6 Inv-loop μ-loop
-same-length-6 c = search needs
+    λ _. ends (turns-with (codes _) (at-loop .loop .inv .0 _) (codes-turn _ _ (at-loop-test .loop-test .taken)) (at-code .code .ensures .1 _))
+    (still (c .if1 .taken))
 
 returns-2 : tie.Need-returns-2 Inv-loop μ-loop
 unfolding fmtRule
@@ -60,37 +41,21 @@ returns-2 c =
     let at-code = c .before .before .before .before .before .before .before .before .before .before .before in
     let at-loop-test = at-code .before .before .before .before in
     let at-loop = at-loop-test .before in
-    λ _. over (turns-with (codes _) (at-loop .loop .inv .0 _) (codes-turn _ _ (at-loop-test .loop-test .taken)) (at-code .code .ensures .1 _)) (codes-over _ _ _ (not-true _ (c .if2 .taken)))
-
-sub-left : tie.Need-sub-left Inv-loop μ-loop
-sub-left c = search needs
-
-loop-less : tie.Need-loop-less Inv-loop μ-loop
-loop-less c = search needs
+    λ _. over (turns-with (codes _) (at-loop .loop .inv .0 _) (codes-turn _ _ (at-loop-test .loop-test .taken)) (at-code .code .ensures .1 _))
+    (codes-over _ _ _ (not-true _ (c .if2 .taken)))
 
 loop-again : tie.Need-loop-again Inv-loop μ-loop
 loop-again c =
     let at-code = c .before .before .before .before .before .before .before .before .before .before .before in
     let at-loop-test = at-code .before .before .before .before in
     let at-loop = at-loop-test .before in (
-      λ _. further (turns-with (codes _) (at-loop .loop .inv .0 _) (codes-turn _ _ (at-loop-test .loop-test .taken)) (at-code .code .ensures .1 _)) (whole (codes-on _ _ _ (not-false _ (c .if2 .left)))),
+      λ _. further (turns-with (codes _) (at-loop .loop .inv .0 _) (codes-turn _ _ (at-loop-test .loop-test .taken)) (at-code .code .ensures .1 _))
+          (whole (codes-on _ _ _ (not-false _ (c .if2 .left)))),
       search needs,
       search needs,
       search needs,
       omega (arith, at-code .code .ensures .0, at-loop .loop .inv .4, at-loop-test .loop-test .taken),
     )
-
-need-requires : tie.Need-need-requires Inv-loop μ-loop
-need-requires c κs = search needs
-
-same-length-7 : tie.Need-same-length-7 Inv-loop μ-loop
-same-length-7 c = search needs
-
-same-length-8 : tie.Need-same-length-8 Inv-loop μ-loop
-same-length-8 c = search needs
-
-same-length-9 : tie.Need-same-length-9 Inv-loop μ-loop
-same-length-9 c = search needs
 
 returns-3 : tie.Need-returns-3 Inv-loop μ-loop
 unfolding fmtRule
@@ -99,25 +64,6 @@ returns-3 c =
 
 pub format-spec : {M : Type 1} → statement M
 format-spec =
-    tie.close
-    (tie.spec
-    Inv-loop
-    μ-loop
-    loop-holds
-    code-requires
-    same-length
-    same-length-2
-    same-length-3
-    returns
-    same-length-4
-    same-length-5
-    same-length-6
-    returns-2
-    sub-left
-    loop-less
-    loop-again
-    need-requires
-    same-length-7
-    same-length-8
-    same-length-9
-    returns-3)
+    tie.close (tie.spec Inv-loop μ-loop loop-holds (search needs) (search needs) (search needs) (search needs) returns
+    (search needs) (search needs) (search needs) returns-2 (search needs) (search needs) loop-again (search needs) (search needs)
+    (search needs) (search needs) returns-3)

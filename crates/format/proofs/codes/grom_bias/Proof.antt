@@ -6,16 +6,11 @@ use borrow.Author.Needs.{needs}
 use Rattle.format.proofs.codes.grom_bias.Statement.{statement}
 use Rattle.format.proofs.codes.grom_bias.Tie as tie
 
-next-byte-requires : tie.Need-next-byte-requires
-next-byte-requires c κs = search needs
-
-go-on-requires : tie.Need-go-on-requires
-go-on-requires c κs = search needs
-
 returns : tie.Need-returns
 unfolding gromBias
 returns c =
     (omega (arith, c .go-on .ensures .0), λ _. bind _ (c .before .next-byte .ensures _) (c .go-on .ensures .1 _))
 
 pub grom-bias-spec : {M : Type 1} → statement M
-grom-bias-spec = tie.close (tie.spec next-byte-requires go-on-requires returns)
+grom-bias-spec =
+    tie.close (tie.spec (search needs) (search needs) returns)

@@ -9,33 +9,6 @@ use borrow.Author.Needs.{needs}
 use Rattle.format.proofs.codes.open_block.Statement.{statement}
 use Rattle.format.proofs.codes.open_block.Tie as tie
 
-raise-requires : tie.Need-raise-requires
-raise-requires c κs = search needs
-
-cast-at : tie.Need-cast-at
-cast-at c = search needs
-
-sub-rest : tie.Need-sub-rest
-sub-rest c = search needs
-
-cast-b : tie.Need-cast-b
-cast-b c = search needs
-
-poke-pad-requires : tie.Need-poke-pad-requires
-poke-pad-requires c κs = search needs
-
-add-more : tie.Need-add-more
-add-more c = search needs
-
-go-on-requires : tie.Need-go-on-requires
-go-on-requires c κs = search needs
-
-same-length : tie.Need-same-length
-same-length c = search needs
-
-same-length-2 : tie.Need-same-length-2
-same-length-2 c = search needs
-
 returns : tie.Need-returns
 unfolding openBlock
 returns c =
@@ -49,15 +22,5 @@ returns c =
 
 pub open-block-spec : {M : Type 1} → statement M
 open-block-spec =
-    tie.close
-    (tie.spec
-    raise-requires
-    cast-at
-    sub-rest
-    cast-b
-    poke-pad-requires
-    add-more
-    go-on-requires
-    same-length
-    same-length-2
-    returns)
+    tie.close (tie.spec (search needs) (search needs) (search needs) (search needs) (search needs) (search needs) (search needs)
+    (search needs) (search needs) returns)

@@ -6,24 +6,6 @@ use borrow.Author.Needs.{needs}
 use Rattle.format.proofs.codes.operand_bias.Statement.{statement}
 use Rattle.format.proofs.codes.operand_bias.Tie as tie
 
-cpu-operand-requires : tie.Need-cpu-operand-requires
-cpu-operand-requires c κs = search needs
-
-cast-at : tie.Need-cast-at
-cast-at c = search needs
-
-peek-pad-requires : tie.Need-peek-pad-requires
-peek-pad-requires c κs = search needs
-
-go-on-requires : tie.Need-go-on-requires
-go-on-requires c κs = search needs
-
-same-length : tie.Need-same-length
-same-length c = search needs
-
-same-length-2 : tie.Need-same-length-2
-same-length-2 c = search needs
-
 returns : tie.Need-returns
 unfolding operandBias
 returns c =
@@ -34,12 +16,4 @@ returns c =
 
 pub operand-bias-spec : {M : Type 1} → statement M
 operand-bias-spec =
-    tie.close
-    (tie.spec
-    cpu-operand-requires
-    cast-at
-    peek-pad-requires
-    go-on-requires
-    same-length
-    same-length-2
-    returns)
+    tie.close (tie.spec (search needs) (search needs) (search needs) (search needs) (search needs) (search needs) returns)

@@ -6,16 +6,11 @@ use borrow.Author.Needs.{needs}
 use Rattle.format.proofs.codes.repeat_block.Statement.{statement}
 use Rattle.format.proofs.codes.repeat_block.Tie as tie
 
-jump-requires : tie.Need-jump-requires
-jump-requires c κs = search needs
-
-go-on-requires : tie.Need-go-on-requires
-go-on-requires c κs = search needs
-
 returns : tie.Need-returns
 unfolding repeatBlock
 returns c =
     (omega (arith, c .go-on .ensures .0), λ _. seq (c .before .jump .ensures _) (c .go-on .ensures .1 _))
 
 pub repeat-block-spec : {M : Type 1} → statement M
-repeat-block-spec = tie.close (tie.spec jump-requires go-on-requires returns)
+repeat-block-spec =
+    tie.close (tie.spec (search needs) (search needs) returns)

@@ -7,24 +7,6 @@ use borrow.Author.Needs.{needs}
 use Rattle.format.proofs.cursor.set_cursor.Statement.{statement}
 use Rattle.format.proofs.cursor.set_cursor.Tie as tie
 
-row-of-requires : tie.Need-row-of-requires
-row-of-requires c κs = search needs
-
-column-of-requires : tie.Need-column-of-requires
-column-of-requires c κs = search needs
-
-poke-pad-requires : tie.Need-poke-pad-requires
-poke-pad-requires c κs = search needs
-
-poke-pad-requires-2 : tie.Need-poke-pad-requires-2
-poke-pad-requires-2 c κs = search needs
-
-same-length : tie.Need-same-length
-same-length c = search needs
-
-same-length-2 : tie.Need-same-length-2
-same-length-2 c = search needs
-
 returns : tie.Need-returns
 unfolding setCursor
 returns c =
@@ -36,12 +18,4 @@ returns c =
 
 pub set-cursor-spec : {M : Type 1} → statement M
 set-cursor-spec =
-    tie.close
-    (tie.spec
-    row-of-requires
-    column-of-requires
-    poke-pad-requires
-    poke-pad-requires-2
-    same-length
-    same-length-2
-    returns)
+    tie.close (tie.spec (search needs) (search needs) (search needs) (search needs) (search needs) (search needs) returns)

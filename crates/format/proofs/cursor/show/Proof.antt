@@ -5,30 +5,6 @@ use borrow.Author.Needs.{needs}
 use Rattle.format.proofs.cursor.show.Statement.{statement}
 use Rattle.format.proofs.cursor.show.Tie as tie
 
-position-requires : tie.Need-position-requires
-position-requires c κs = search needs
-
-draw-requires : tie.Need-draw-requires
-draw-requires c κs = search needs
-
-add-far : tie.Need-add-far
-add-far c = search needs
-
-wrap-show-requires : tie.Need-wrap-show-requires
-wrap-show-requires c κs = search needs
-
-set-cursor-requires : tie.Need-set-cursor-requires
-set-cursor-requires c κs = search needs
-
-same-length : tie.Need-same-length
-same-length c = search needs
-
-same-length-2 : tie.Need-same-length-2
-same-length-2 c = search needs
-
-same-length-3 : tie.Need-same-length-3
-same-length-3 c = search needs
-
 returns : tie.Need-returns
 unfolding show
 returns c =
@@ -40,14 +16,5 @@ returns c =
 
 pub show-spec : {M : Type 1} → statement M
 show-spec =
-    tie.close
-    (tie.spec
-    position-requires
-    draw-requires
-    add-far
-    wrap-show-requires
-    set-cursor-requires
-    same-length
-    same-length-2
-    same-length-3
-    returns)
+    tie.close (tie.spec (search needs) (search needs) (search needs) (search needs) (search needs) (search needs) (search needs)
+    (search needs) returns)

@@ -9,13 +9,11 @@ returns : tie.Need-returns
 returns c = λ _. still (c .if1 .taken)
 
 returns-2 : tie.Need-returns-2
-returns-2 c = λ _. grom-beyond (c .before .if1 .left) (c .if2 .taken)
-
-shared-slice-read-t8 : tie.Need-shared-slice-read-t8
-shared-slice-read-t8 c = search needs
+returns-2 c = λ _. rw (c .refused .ensures) (grom-beyond (c .before .before .if1 .left) (c .before .if2 .taken))
 
 returns-3 : tie.Need-returns-3
-returns-3 c = λ _. grom-read (c .before .before .if1 .left) (c .before .if2 .left) refl
+returns-3 c = λ _. rw (c .read .ensures) (grom-read (c .before .before .before .if1 .left) (c .before .before .if2 .left) refl)
 
 pub grom-byte-spec : {M : Type 1} → statement M
-grom-byte-spec = tie.close (tie.spec returns returns-2 shared-slice-read-t8 returns-3)
+grom-byte-spec =
+    tie.close (tie.spec returns (search needs) returns-2 (search needs) (search needs) returns-3)

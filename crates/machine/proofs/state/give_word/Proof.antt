@@ -8,4 +8,5 @@ returns : tie.Need-returns
 returns c = (refl, λ _. gives refl)
 
 pub give-word-spec : {M : Type 1} → statement M
-give-word-spec = tie.close (tie.spec returns)
+give-word-spec =
+    tie.close (tie.spec returns)

@@ -1,5 +1,6 @@
 -- Still after a refusal, and where the test holds; else the refusal.
 use Rattle.machine.proofs.Acts.{still, need-holds, need-fails}
+use borrow.Author.Needs.{needs}
 use Rattle.machine.proofs.state.need.Statement.{statement}
 use Rattle.machine.proofs.state.need.Tie as tie
 
@@ -10,7 +11,8 @@ returns-2 : tie.Need-returns-2
 returns-2 c = λ w e _. need-holds w (c .if2 .taken)
 
 returns-3 : tie.Need-returns-3
-returns-3 c = λ w e _. need-fails w (c .before .if1 .left) e (c .if2 .left)
+returns-3 c = λ w e _. rw (c .refused .ensures) (need-fails w (c .before .before .if1 .left) e (c .before .if2 .left))
 
 pub need-spec : {M : Type 1} → statement M
-need-spec = tie.close (tie.spec returns returns-2 returns-3)
+need-spec =
+    tie.close (tie.spec returns returns-2 (search needs) returns-3)

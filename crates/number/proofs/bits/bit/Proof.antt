@@ -8,12 +8,10 @@ use borrow.Author.Needs.{needs}
 use Rattle.number.proofs.bits.bit.Statement.{statement}
 use Rattle.number.proofs.bits.bit.Tie as tie
 
-shr-shifted : tie.Need-shr-shifted
-shr-shifted c = search needs
-
 returns : tie.Need-returns
 unfolding bit
 returns c = ap (λ (n : ℕ). eqb n 1) (and-mask (c .args .b / 2 ^ c .args .n) 1)
 
 pub bit-spec : {M : Type 1} → statement M
-bit-spec = tie.close (tie.spec shr-shifted returns)
+bit-spec =
+    tie.close (tie.spec (search needs) returns)

@@ -7,4 +7,5 @@ returns : tie.Need-returns
 returns c = and-mask (c .args .b) 4
 
 pub nibble-spec : {M : Type 1} → statement M
-nibble-spec = tie.close (tie.spec returns)
+nibble-spec =
+    tie.close (tie.spec returns)

@@ -17,4 +17,5 @@ unfolding wrapShow
 returns-3 c = rw (le-ltb _ _ (c .before .if1 .left), le-ltb _ _ (c .if2 .left))
 
 pub wrap-show-spec : {M : Type 1} → statement M
-wrap-show-spec = tie.close (tie.spec returns returns-2 returns-3)
+wrap-show-spec =
+    tie.close (tie.spec returns returns-2 returns-3)

@@ -13,4 +13,5 @@ unfolding wrapSkip
 returns-2 c = rw (le-ltb _ _ (c .if1 .left))
 
 pub wrap-skip-spec : {M : Type 1} → statement M
-wrap-skip-spec = tie.close (tie.spec returns returns-2)
+wrap-skip-spec =
+    tie.close (tie.spec returns returns-2)

@@ -5,9 +5,6 @@ use borrow.Author.Needs.{needs}
 use Rattle.number.proofs.products.divide.Statement.{statement}
 use Rattle.number.proofs.products.divide.Tie as tie
 
-half-requires : tie.Need-half-requires
-half-requires c κs = search needs
-
 mul-all : tie.Need-mul-all
 mul-all c = omega (arith, half-to (c .before .args .wide))
 
@@ -17,14 +14,8 @@ mul-top c = omega (arith, top-to (c .before .args .wide) (c .before .fits .upper
 add-n : tie.Need-add-n
 add-n c = omega (arith, top-to (c .before .args .wide) (c .before .fits .upper .fits) (c .half .ensures))
 
-div-high : tie.Need-div-high
-div-high c = search needs
-
 cast-high : tie.Need-cast-high
 cast-high c = record { fits = quotient-below (c .before .pre .0) (omega arith) (omega (arith, half-to (c .before .args .wide))) }
-
-rem-low : tie.Need-rem-low
-rem-low c = search needs
 
 cast-low : tie.Need-cast-low
 cast-low c = record { fits = rest-below _ (omega arith) (omega arith) }
@@ -34,5 +25,4 @@ returns c = (rw (c .half .ensures), rw (c .half .ensures))
 
 pub divide-spec : {M : Type 1} → statement M
 divide-spec =
-    tie.close
-    (tie.spec half-requires mul-all mul-top add-n div-high cast-high rem-low cast-low returns)
+    tie.close (tie.spec (search needs) mul-all mul-top add-n (search needs) cast-high (search needs) cast-low returns)

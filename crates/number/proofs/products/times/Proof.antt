@@ -6,23 +6,14 @@ use borrow.Author.Needs.{needs}
 use Rattle.number.proofs.products.times.Statement.{statement}
 use Rattle.number.proofs.products.times.Tie as tie
 
-half-requires : tie.Need-half-requires
-half-requires c κs = search needs
-
 mul-all : tie.Need-mul-all
 mul-all c = omega (arith, half-to (c .before .args .wide))
 
 mul-p : tie.Need-mul-p
 mul-p c = omega (arith, product-to (c .before .fits .a .fits) (le-of-lt (c .before .fits .b .fits)))
 
-div-high : tie.Need-div-high
-div-high c = search needs
-
 cast-high : tie.Need-cast-high
 cast-high c = record { fits = upper-below (omega arith) (c .before .fits .b .fits) }
-
-rem-low : tie.Need-rem-low
-rem-low c = search needs
 
 cast-low : tie.Need-cast-low
 cast-low c =
@@ -34,4 +25,4 @@ returns c = (rw (c .half .ensures), rw (c .half .ensures))
 
 pub times-spec : {M : Type 1} → statement M
 times-spec =
-    tie.close (tie.spec half-requires mul-all mul-p div-high cast-high rem-low cast-low returns)
+    tie.close (tie.spec (search needs) mul-all mul-p (search needs) cast-high (search needs) cast-low returns)

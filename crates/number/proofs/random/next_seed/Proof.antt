@@ -5,15 +5,10 @@ use borrow.Author.Needs.{needs}
 use Rattle.number.proofs.random.next_seed.Statement.{statement}
 use Rattle.number.proofs.random.next_seed.Tie as tie
 
-times-wrapped-requires : tie.Need-times-wrapped-requires
-times-wrapped-requires c κs = search needs
-
-wrapping-add-u16-requires : tie.Need-wrapping-add-u16-requires
-wrapping-add-u16-requires c κs = search needs
-
 returns : tie.Need-returns
 unfolding nextSeed
 returns c = omega (arith, c .wrapping-add-u16 .ensures)
 
 pub next-seed-spec : {M : Type 1} → statement M
-next-seed-spec = tie.close (tie.spec times-wrapped-requires wrapping-add-u16-requires returns)
+next-seed-spec =
+    tie.close (tie.spec (search needs) (search needs) returns)

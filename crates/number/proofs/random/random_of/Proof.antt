@@ -6,18 +6,6 @@ use borrow.Author.Needs.{needs}
 use Rattle.number.proofs.random.random_of.Statement.{statement}
 use Rattle.number.proofs.random.random_of.Tie as tie
 
-mul-high : tie.Need-mul-high
-mul-high c = search needs
-
-add-swapped : tie.Need-add-swapped
-add-swapped c = search needs
-
-add-n : tie.Need-add-n
-add-n c = search needs
-
-rem-r : tie.Need-rem-r
-rem-r c = search needs
-
 cast-result : tie.Need-cast-result
 cast-result c = record { fits = rest-below _ (search needs) (search needs) }
 
@@ -26,4 +14,5 @@ unfolding randomOf
 returns c = refl
 
 pub random-of-spec : {M : Type 1} → statement M
-random-of-spec = tie.close (tie.spec mul-high add-swapped add-n rem-r cast-result returns)
+random-of-spec =
+    tie.close (tie.spec (search needs) (search needs) (search needs) (search needs) cast-result returns)

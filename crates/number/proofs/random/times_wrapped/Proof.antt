@@ -9,11 +9,9 @@ use Rattle.number.proofs.random.times_wrapped.Tie as tie
 mul-p : tie.Need-mul-p
 mul-p c = omega (arith, product-to (c .fits .a .fits) (le-of-lt (c .fits .b .fits)))
 
-cast-result : tie.Need-cast-result
-cast-result c = search needs
-
 returns : tie.Need-returns
 returns c = search needs
 
 pub times-wrapped-spec : {M : Type 1} → statement M
-times-wrapped-spec = tie.close (tie.spec mul-p cast-result returns)
+times-wrapped-spec =
+    tie.close (tie.spec mul-p (search needs) returns)

@@ -6,15 +6,6 @@ use borrow.Author.Needs.{needs}
 use Rattle.number.proofs.shifts.circular.Statement.{statement}
 use Rattle.number.proofs.shifts.circular.Tie as tie
 
-sub-back : tie.Need-sub-back
-sub-back c = search needs
-
-shl-high : tie.Need-shl-high
-shl-high c = search needs
-
-shr-r : tie.Need-shr-r
-shr-r c = search needs
-
 add-r : tie.Need-add-r
 add-r c = omega (arith, turned-below (c .args .x) (c .args .n) (c .pre .1) (c .fits .x .fits))
 
@@ -26,4 +17,5 @@ unfolding circular
 returns c = rw (turned-in (c .args .x) (c .args .n) (c .pre .1))
 
 pub circular-spec : {M : Type 1} → statement M
-circular-spec = tie.close (tie.spec sub-back shl-high shr-r add-r cast-result returns)
+circular-spec =
+    tie.close (tie.spec (search needs) (search needs) (search needs) add-r cast-result returns)

@@ -5,15 +5,10 @@ use borrow.Author.Needs.{needs}
 use Rattle.number.proofs.shifts.leftward.Statement.{statement}
 use Rattle.number.proofs.shifts.leftward.Tie as tie
 
-shl-s : tie.Need-shl-s
-shl-s c = search needs
-
-cast-result : tie.Need-cast-result
-cast-result c = search needs
-
 returns : tie.Need-returns
 unfolding leftward
 returns c = mod-mod-pow _ 16 16
 
 pub leftward-spec : {M : Type 1} → statement M
-leftward-spec = tie.close (tie.spec shl-s cast-result returns)
+leftward-spec =
+    tie.close (tie.spec (search needs) (search needs) returns)

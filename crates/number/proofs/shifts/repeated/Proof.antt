@@ -20,4 +20,5 @@ unfolding repeated
 returns-2 c = simp (c .if1 .left)
 
 pub repeated-spec : {M : Type 1} → statement M
-repeated-spec = tie.close (tie.spec returns mul-high add-r returns-2)
+repeated-spec =
+    tie.close (tie.spec returns mul-high add-r returns-2)

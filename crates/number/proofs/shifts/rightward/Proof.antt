@@ -7,9 +7,6 @@ use borrow.Author.Needs.{needs}
 use Rattle.number.proofs.shifts.rightward.Statement.{statement}
 use Rattle.number.proofs.shifts.rightward.Tie as tie
 
-shr-r : tie.Need-shr-r
-shr-r c = search needs
-
 cast-result : tie.Need-cast-result
 cast-result c = omega (arith, shr-le (c .args .x) (c .args .n))
 
@@ -18,4 +15,5 @@ unfolding rightward
 returns c = refl
 
 pub rightward-spec : {M : Type 1} → statement M
-rightward-spec = tie.close (tie.spec shr-r cast-result returns)
+rightward-spec =
+    tie.close (tie.spec (search needs) cast-result returns)

@@ -14,4 +14,5 @@ unfolding shiftCount
 returns-2 c = (simp (ne-eqb _ _ (c .if1 .left)), omega arith, omega arith)
 
 pub shift-count-spec : {M : Type 1} → statement M
-shift-count-spec = tie.close (tie.spec returns returns-2)
+shift-count-spec =
+    tie.close (tie.spec returns returns-2)

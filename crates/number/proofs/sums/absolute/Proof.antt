@@ -5,12 +5,6 @@ use borrow.Author.Needs.{needs}
 use Rattle.number.proofs.sums.absolute.Statement.{statement}
 use Rattle.number.proofs.sums.absolute.Tie as tie
 
-negative-requires : tie.Need-negative-requires
-negative-requires c κs = search needs
-
-complement-requires : tie.Need-complement-requires
-complement-requires c κs = search needs
-
 returns : tie.Need-returns
 unfolding absolute
 returns c = rw (sym (c .before .before .negative .ensures) ∙ c .before .if1 .taken) (c .complement .ensures)
@@ -20,4 +14,5 @@ unfolding absolute
 returns-2 c = rw (sym (c .before .negative .ensures) ∙ c .if1 .left)
 
 pub absolute-spec : {M : Type 1} → statement M
-absolute-spec = tie.close (tie.spec negative-requires complement-requires returns returns-2)
+absolute-spec =
+    tie.close (tie.spec (search needs) (search needs) returns returns-2)

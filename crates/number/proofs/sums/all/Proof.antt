@@ -5,9 +5,6 @@ use borrow.Author.Needs.{needs}
 use Rattle.number.proofs.sums.all.Statement.{statement}
 use Rattle.number.proofs.sums.all.Tie as tie
 
-half-requires : tie.Need-half-requires
-half-requires c κs = search needs
-
 mul-n : tie.Need-mul-n
 mul-n c = omega (arith, half-to (c .before .args .wide))
 
@@ -15,4 +12,5 @@ returns : tie.Need-returns
 returns c = (omega arith, omega (arith, half-from (c .before .args .wide)), omega (arith, half-to (c .before .args .wide)))
 
 pub all-spec : {M : Type 1} → statement M
-all-spec = tie.close (tie.spec half-requires mul-n returns)
+all-spec =
+    tie.close (tie.spec (search needs) mul-n returns)

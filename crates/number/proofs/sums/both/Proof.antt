@@ -12,4 +12,5 @@ unfolding _also_
 returns-2 c = simp (c .if1 .left)
 
 pub both-spec : {M : Type 1} → statement M
-both-spec = tie.close (tie.spec returns returns-2)
+both-spec =
+    tie.close (tie.spec returns returns-2)

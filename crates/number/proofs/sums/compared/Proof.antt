@@ -4,15 +4,10 @@ use borrow.Author.Needs.{needs}
 use Rattle.number.proofs.sums.compared.Statement.{statement}
 use Rattle.number.proofs.sums.compared.Tie as tie
 
-above-requires : tie.Need-above-requires
-above-requires c κs = search needs
-
-status-byte-requires : tie.Need-status-byte-requires
-status-byte-requires c κs = search needs
-
 returns : tie.Need-returns
 unfolding compared
 returns c = simp (c .status-byte .ensures, c .before .above .ensures)
 
 pub compared-spec : {M : Type 1} → statement M
-compared-spec = tie.close (tie.spec above-requires status-byte-requires returns)
+compared-spec =
+    tie.close (tie.spec (search needs) (search needs) returns)

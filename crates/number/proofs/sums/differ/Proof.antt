@@ -11,4 +11,5 @@ returns-2 : tie.Need-returns-2
 returns-2 c = search needs
 
 pub differ-spec : {M : Type 1} → statement M
-differ-spec = tie.close (tie.spec returns returns-2)
+differ-spec =
+    tie.close (tie.spec returns returns-2)

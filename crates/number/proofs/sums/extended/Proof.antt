@@ -22,4 +22,5 @@ unfolding extended
 returns-3 c = simp (c .before .if1 .left, le-leb _ _ (c .if2 .left))
 
 pub extended-spec : {M : Type 1} → statement M
-extended-spec = tie.close (tie.spec returns returns-2 add-r returns-3)
+extended-spec =
+    tie.close (tie.spec returns returns-2 add-r returns-3)

@@ -5,17 +5,12 @@ use borrow.Author.Needs.{needs}
 use Rattle.number.proofs.sums.rank.Statement.{statement}
 use Rattle.number.proofs.sums.rank.Tie as tie
 
-half-requires : tie.Need-half-requires
-half-requires c κs = search needs
-
 add-s : tie.Need-add-s
 add-s c = omega (arith, half-to (c .before .args .wide))
-
-wrapped-requires : tie.Need-wrapped-requires
-wrapped-requires c κs = search needs
 
 returns : tie.Need-returns
 returns c = simp (c .wrapped .ensures, c .before .half .ensures)
 
 pub rank-spec : {M : Type 1} → statement M
-rank-spec = tie.close (tie.spec half-requires add-s wrapped-requires returns)
+rank-spec =
+    tie.close (tie.spec (search needs) add-s (search needs) returns)

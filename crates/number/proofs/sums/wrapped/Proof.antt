@@ -4,12 +4,6 @@ use borrow.Author.Needs.{needs}
 use Rattle.number.proofs.sums.wrapped.Statement.{statement}
 use Rattle.number.proofs.sums.wrapped.Tie as tie
 
-all-requires : tie.Need-all-requires
-all-requires c κs = search needs
-
-rem-r : tie.Need-rem-r
-rem-r c = search needs
-
 cast-result : tie.Need-cast-result
 cast-result c = record { fits = rest-below _ (c .all .ensures .1) (c .all .ensures .2) }
 
@@ -17,4 +11,5 @@ returns : tie.Need-returns
 returns c = rw (c .all .ensures .0)
 
 pub wrapped-spec : {M : Type 1} → statement M
-wrapped-spec = tie.close (tie.spec all-requires rem-r cast-result returns)
+wrapped-spec =
+    tie.close (tie.spec (search needs) (search needs) cast-result returns)

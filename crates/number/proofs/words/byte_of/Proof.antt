@@ -16,4 +16,5 @@ returns c =
     and-mask w 8 ∙ same
 
 pub byte-of-spec : {M : Type 1} → statement M
-byte-of-spec = tie.close (tie.spec cast-result returns)
+byte-of-spec =
+    tie.close (tie.spec cast-result returns)

@@ -9,4 +9,5 @@ returns : tie.Need-returns
 returns c = ap (λ (n : ℕ). n / 256) (and-mask (c .args .w) 30)
 
 pub cell-of-spec : {M : Type 1} → statement M
-cell-of-spec = tie.close (tie.spec returns)
+cell-of-spec =
+    tie.close (tie.spec returns)

@@ -10,4 +10,5 @@ returns : tie.Need-returns
 returns c = and-mask (c .args .w) 8
 
 pub low-of-spec : {M : Type 1} → statement M
-low-of-spec = tie.close (tie.spec cast-result returns)
+low-of-spec =
+    tie.close (tie.spec cast-result returns)

@@ -10,4 +10,5 @@ unfolding markWord
 returns c = or-shifted 3 30 (c .args .pc) (omega arith)
 
 pub mark-of-spec : {M : Type 1} → statement M
-mark-of-spec = tie.close (tie.spec returns)
+mark-of-spec =
+    tie.close (tie.spec returns)

@@ -17,4 +17,5 @@ returns c =
     ∙ packed 2 30 32 (c .pre .0) (omega arith) (omega arith) ∙ same
 
 pub pack-spec : {M : Type 1} → statement M
-pack-spec = tie.close (tie.spec returns)
+pack-spec =
+    tie.close (tie.spec returns)

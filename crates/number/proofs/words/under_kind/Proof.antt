@@ -7,4 +7,5 @@ returns : tie.Need-returns
 returns c = and-mask (c .args .w) 30
 
 pub under-kind-spec : {M : Type 1} → statement M
-under-kind-spec = tie.close (tie.spec returns)
+under-kind-spec =
+    tie.close (tie.spec returns)

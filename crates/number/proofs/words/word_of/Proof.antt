@@ -8,4 +8,5 @@ returns : tie.Need-returns
 returns c = packed 8 8 16 (c .fits .high .fits) (omega arith) (c .fits .low .fits)
 
 pub word-of-spec : {M : Type 1} → statement M
-word-of-spec = tie.close (tie.spec returns)
+word-of-spec =
+    tie.close (tie.spec returns)

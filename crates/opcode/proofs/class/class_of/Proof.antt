@@ -5,14 +5,8 @@ use borrow.Author.Needs.{needs}
 use Rattle.opcode.proofs.class.class_of.Statement.{statement}
 use Rattle.opcode.proofs.class.class_of.Tie as tie
 
-upper-class-requires : tie.Need-upper-class-requires
-upper-class-requires c κs = search needs
-
 returns : tie.Need-returns
 returns c = search needs
-
-low-class-requires : tie.Need-low-class-requires
-low-class-requires c κs = search needs
 
 returns-2 : tie.Need-returns-2
 unfolding classOf
@@ -22,16 +16,20 @@ returns-3 : tie.Need-returns-3
 unfolding classOf
 returns-3 c = rw (le-ltb _ _ (c .before .if2 .left), lt-ltb _ _ (c .if3 .taken))
 
-move-class-requires : tie.Need-move-class-requires
-move-class-requires c κs = search needs
-
 returns-4 : tie.Need-returns-4
 unfolding classOf
-returns-4 c = rw (le-ltb _ _ (c .before .before .before .if2 .left), le-ltb _ _ (c .before .before .if3 .left), lt-ltb _ _ (c .before .if4 .taken)) (c .move-class .ensures)
+returns-4 c = rw (le-ltb _ _ (c .before .before .before .if2 .left), le-ltb _ _ (c .before .before .if3 .left), lt-ltb _ _ (c .before .if4 .taken))
+    (c .move-class .ensures)
 
 returns-5 : tie.Need-returns-5
 unfolding classOf
-returns-5 c = rw (le-ltb _ _ (c .before .before .before .if2 .left), le-ltb _ _ (c .before .before .if3 .left), le-ltb _ _ (c .before .if4 .left), lt-ltb _ _ (c .if5 .taken))
+returns-5 c = rw (
+  le-ltb _ _ (c .before .before .before .if2 .left),
+  le-ltb _ _ (c .before .before .if3 .left),
+  le-ltb _ _
+      (c .before .if4 .left),
+  lt-ltb _ _ (c .if5 .taken),
+)
 
 returns-6 : tie.Need-returns-6
 unfolding classOf
@@ -47,14 +45,4 @@ returns-6 c =
 
 pub class-of-spec : {M : Type 1} → statement M
 class-of-spec =
-    tie.close
-    (tie.spec
-    upper-class-requires
-    returns
-    low-class-requires
-    returns-2
-    returns-3
-    move-class-requires
-    returns-4
-    returns-5
-    returns-6)
+    tie.close (tie.spec (search needs) returns (search needs) returns-2 returns-3 (search needs) returns-4 returns-5 returns-6)

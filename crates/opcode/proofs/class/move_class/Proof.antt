@@ -6,12 +6,6 @@ use borrow.Author.Needs.{needs}
 use Rattle.opcode.proofs.class.move_class.Statement.{statement}
 use Rattle.opcode.proofs.class.move_class.Tie as tie
 
-bit-requires : tie.Need-bit-requires
-bit-requires c κs = search needs
-
-bit-requires-2 : tie.Need-bit-requires-2
-bit-requires-2 c κs = search needs
-
 returns : tie.Need-returns
 unfolding moveClass _also_
 returns c = rw (sym (c .before .before .before .bit .ensures) ∙ c .before .before .if1 .taken, sym (c .before .bit2 .ensures) ∙ c .if2 .taken)
@@ -25,4 +19,5 @@ unfolding moveClass _also_
 returns-3 c = rw (sym (c .before .bit .ensures) ∙ c .if1 .left)
 
 pub move-class-spec : {M : Type 1} → statement M
-move-class-spec = tie.close (tie.spec bit-requires bit-requires-2 returns returns-2 returns-3)
+move-class-spec =
+    tie.close (tie.spec (search needs) (search needs) returns returns-2 returns-3)

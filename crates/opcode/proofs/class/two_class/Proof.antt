@@ -5,9 +5,6 @@ use borrow.Author.Needs.{needs}
 use Rattle.opcode.proofs.class.two_class.Statement.{statement}
 use Rattle.opcode.proofs.class.two_class.Tie as tie
 
-ex-class-requires : tie.Need-ex-class-requires
-ex-class-requires c κs = search needs
-
 returns : tie.Need-returns
 returns c = rw (c .match .keys1)
 
@@ -70,26 +67,5 @@ returns-20 c = last-arm _ (twoRows (c .before .args .imm) (c .before .args .wide
 
 pub two-class-spec : {M : Type 1} → statement M
 two-class-spec =
-    tie.close
-    (tie.spec
-    ex-class-requires
-    returns
-    returns-2
-    returns-3
-    returns-4
-    returns-5
-    returns-6
-    returns-7
-    returns-8
-    returns-9
-    returns-10
-    returns-11
-    returns-12
-    returns-13
-    returns-14
-    returns-15
-    returns-16
-    returns-17
-    returns-18
-    returns-19
-    returns-20)
+    tie.close (tie.spec (search needs) returns returns-2 returns-3 returns-4 returns-5 returns-6 returns-7 returns-8 returns-9
+    returns-10 returns-11 returns-12 returns-13 returns-14 returns-15 returns-16 returns-17 returns-18 returns-19 returns-20)

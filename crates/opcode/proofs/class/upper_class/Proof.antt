@@ -8,7 +8,7 @@ use borrow.Author.Tests.{lt-ltb, le-ltb}
 use Rattle.rules.specs.Machine.{pick, bit}
 use Rattle.rules.specs.Answers.{noSuch, needsHost}
 use Rattle.rules.specs.Opcodes.{Class, stops, row, oneRows, twoRows, classOf}
-use Rattle.opcode.specs.Classes.{said}
+use Rattle.opcode.specs.Meaning.{said}
 use borrow.Author.Needs.{needs}
 use Rattle.opcode.proofs.class.upper_class.Statement.{statement}
 use Rattle.opcode.proofs.class.upper_class.Tie as tie
@@ -24,15 +24,6 @@ passed : (op : ℕ) → 0x80 ≤ op → upper op ≡ classOf op
 unfolding classOf
 passed op h = rw (le-ltb op 0x10 (omega arith), le-ltb op 0x30 (omega arith), le-ltb op 0x40 (omega arith), le-ltb op 0x60 (omega arith), le-ltb op 0x80 h)
 
-sub-row : tie.Need-sub-row
-sub-row c = search needs
-
-bit-requires : tie.Need-bit-requires
-bit-requires c κs = search needs
-
-one-class-requires : tie.Need-one-class-requires
-one-class-requires c κs = search needs
-
 returns : tie.Need-returns
 returns c =
     let at-if1 = c .before .before in
@@ -40,15 +31,6 @@ returns c =
     let op = start .args .op in
     rw (sym (passed op (start .pre)), lt-ltb _ _ (at-if1 .if1 .taken))
     (c .one-class .ensures ∙ ap (λ (w : Bool). said (row ((op - 0x80) / 2) (oneRows w))) (c .before .bit .ensures))
-
-bit-requires-2 : tie.Need-bit-requires-2
-bit-requires-2 c κs = search needs
-
-bit-requires-3 : tie.Need-bit-requires-3
-bit-requires-3 c κs = search needs
-
-two-class-requires : tie.Need-two-class-requires
-two-class-requires c κs = search needs
 
 returns-2 : tie.Need-returns-2
 returns-2 c =
@@ -73,15 +55,5 @@ returns-4 c =
 
 pub upper-class-spec : {M : Type 1} → statement M
 upper-class-spec =
-    tie.close
-    (tie.spec
-    sub-row
-    bit-requires
-    one-class-requires
-    returns
-    bit-requires-2
-    bit-requires-3
-    two-class-requires
-    returns-2
-    returns-3
-    returns-4)
+    tie.close (tie.spec (search needs) (search needs) (search needs) returns (search needs) (search needs) (search needs)
+    returns-2 returns-3 returns-4)

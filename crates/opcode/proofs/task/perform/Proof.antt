@@ -4,149 +4,17 @@ use borrow.Author.Needs.{needs}
 use Rattle.opcode.proofs.task.perform.Statement.{statement}
 use Rattle.opcode.proofs.task.perform.Tie as tie
 
-enum-told : tie.Need-enum-told
-enum-told c = search needs
-
-rtn-requires : tie.Need-rtn-requires
-rtn-requires c κs = search needs
-
-enum-told-2 : tie.Need-enum-told-2
-enum-told-2 c = search needs
-
-rtnc-requires : tie.Need-rtnc-requires
-rtnc-requires c κs = search needs
-
-enum-told-3 : tie.Need-enum-told-3
-enum-told-3 c = search needs
-
-rand-requires : tie.Need-rand-requires
-rand-requires c κs = search needs
-
-enum-told-4 : tie.Need-enum-told-4
-enum-told-4 c = search needs
-
-back-requires : tie.Need-back-requires
-back-requires c κs = search needs
-
-enum-told-5 : tie.Need-enum-told-5
-enum-told-5 c = search needs
-
-long-requires : tie.Need-long-requires
-long-requires c κs = search needs
-
-enum-told-6 : tie.Need-enum-told-6
-enum-told-6 c = search needs
-
-call-requires : tie.Need-call-requires
-call-requires c κs = search needs
-
-enum-told-7 : tie.Need-enum-told-7
-enum-told-7 c = search needs
-
-all-requires : tie.Need-all-requires
-all-requires c κs = search needs
-
-enum-told-8 : tie.Need-enum-told-8
-enum-told-8 c = search needs
-
-format-requires : tie.Need-format-requires
-format-requires c κs = search needs
-
-enum-known-task : tie.Need-enum-known-task
-enum-known-task c = search needs
-
-test-status-requires : tie.Need-test-status-requires
-test-status-requires c κs = search needs
-
-enum-known-task-2 : tie.Need-enum-known-task-2
-enum-known-task-2 c = search needs
-
-move-block-requires : tie.Need-move-block-requires
-move-block-requires c κs = search needs
-
-enum-known-task-3 : tie.Need-enum-known-task-3
-enum-known-task-3 c = search needs
-
-branch-requires : tie.Need-branch-requires
-branch-requires c κs = search needs
-
-enum-known-task-4 : tie.Need-enum-known-task-4
-enum-known-task-4 c = search needs
-
-one-requires : tie.Need-one-requires
-one-requires c κs = search needs
-
-enum-known-task-5 : tie.Need-enum-known-task-5
-enum-known-task-5 c = search needs
-
-fetch-requires : tie.Need-fetch-requires
-fetch-requires c κs = search needs
-
-enum-known-task-6 : tie.Need-enum-known-task-6
-enum-known-task-6 c = search needs
-
-case-requires : tie.Need-case-requires
-case-requires c κs = search needs
-
-enum-known-task-7 : tie.Need-enum-known-task-7
-enum-known-task-7 c = search needs
-
-push-requires : tie.Need-push-requires
-push-requires c κs = search needs
-
-enum-known-task-8 : tie.Need-enum-known-task-8
-enum-known-task-8 c = search needs
-
-two-requires : tie.Need-two-requires
-two-requires c κs = search needs
-
-enum-known-task-9 : tie.Need-enum-known-task-9
-enum-known-task-9 c = search needs
-
-mul-requires : tie.Need-mul-requires
-mul-requires c κs = search needs
-
-enum-known-task-10 : tie.Need-enum-known-task-10
-enum-known-task-10 c = search needs
-
-div-requires : tie.Need-div-requires
-div-requires c κs = search needs
-
-enum-known-task-11 : tie.Need-enum-known-task-11
-enum-known-task-11 c = search needs
-
-ex-requires : tie.Need-ex-requires
-ex-requires c κs = search needs
-
-same-length : tie.Need-same-length
-same-length c = search needs
-
-same-length-2 : tie.Need-same-length-2
-same-length-2 c = search needs
-
 returns : tie.Need-returns
 unfolding ruleOf
 returns c =
     let at-enum-told = c .before .before .before .before .before .before .before in
     λ _. rw (at-enum-told .enum-told .given .1) (c .before .before .before .before .rtn .ensures _)
 
-same-length-3 : tie.Need-same-length-3
-same-length-3 c = search needs
-
-same-length-4 : tie.Need-same-length-4
-same-length-4 c = search needs
-
 returns-2 : tie.Need-returns-2
 unfolding ruleOf
 returns-2 c =
     let at-enum-told2 = c .before .before .before .before .before .before .before in
     λ _. rw (at-enum-told2 .enum-told2 .given .1) (c .before .before .before .before .rtnc .ensures _)
-
-same-length-5 : tie.Need-same-length-5
-same-length-5 c = search needs
-
-same-length-6 : tie.Need-same-length-6
-same-length-6 c = search needs
 
 returns-3 : tie.Need-returns-3
 unfolding ruleOf
@@ -393,112 +261,16 @@ returns-19 c =
 
 pub perform-spec : {M : Type 1} → statement M
 perform-spec =
-    tie.close
-    (tie.spec
-    enum-told
-    rtn-requires
-    enum-told-2
-    rtnc-requires
-    enum-told-3
-    rand-requires
-    enum-told-4
-    back-requires
-    enum-told-5
-    long-requires
-    enum-told-6
-    call-requires
-    enum-told-7
-    all-requires
-    enum-told-8
-    format-requires
-    enum-known-task
-    test-status-requires
-    enum-known-task-2
-    move-block-requires
-    enum-known-task-3
-    branch-requires
-    enum-known-task-4
-    one-requires
-    enum-known-task-5
-    fetch-requires
-    enum-known-task-6
-    case-requires
-    enum-known-task-7
-    push-requires
-    enum-known-task-8
-    two-requires
-    enum-known-task-9
-    mul-requires
-    enum-known-task-10
-    div-requires
-    enum-known-task-11
-    ex-requires
-    same-length
-    same-length-2
-    returns
-    same-length-3
-    same-length-4
-    returns-2
-    same-length-5
-    same-length-6
-    returns-3
-    same-length-7
-    same-length-8
-    returns-4
-    same-length-9
-    same-length-10
-    returns-5
-    same-length-11
-    same-length-12
-    returns-6
-    same-length-13
-    same-length-14
-    same-length-15
-    returns-7
-    same-length-16
-    same-length-17
-    same-length-18
-    returns-8
-    same-length-19
-    same-length-20
-    returns-9
-    same-length-21
-    same-length-22
-    same-length-23
-    same-length-24
-    returns-10
-    same-length-25
-    same-length-26
-    returns-11
-    same-length-27
-    same-length-28
-    same-length-29
-    returns-12
-    same-length-30
-    same-length-31
-    same-length-32
-    returns-13
-    same-length-33
-    same-length-34
-    same-length-35
-    returns-14
-    same-length-36
-    same-length-37
-    same-length-38
-    returns-15
-    same-length-39
-    same-length-40
-    same-length-41
-    returns-16
-    same-length-42
-    same-length-43
-    same-length-44
-    returns-17
-    same-length-45
-    same-length-46
-    same-length-47
-    returns-18
-    same-length-48
-    same-length-49
-    same-length-50
-    returns-19)
+    tie.close (tie.spec (search needs) (search needs) (search needs) (search needs) (search needs) (search needs) (search needs)
+    (search needs) (search needs) (search needs) (search needs) (search needs) (search needs) (search needs) (search needs)
+    (search needs) (search needs) (search needs) (search needs) (search needs) (search needs) (search needs) (search needs)
+    (search needs) (search needs) (search needs) (search needs) (search needs) (search needs) (search needs) (search needs)
+    (search needs) (search needs) (search needs) (search needs) (search needs) (search needs) (search needs) (search needs)
+    (search needs) returns (search needs) (search needs) returns-2 (search needs) (search needs) returns-3 same-length-7
+    same-length-8 returns-4 same-length-9 same-length-10 returns-5 same-length-11 same-length-12 returns-6 same-length-13
+    same-length-14 same-length-15 returns-7 same-length-16 same-length-17 same-length-18 returns-8 same-length-19 same-length-20
+    returns-9 same-length-21 same-length-22 same-length-23 same-length-24 returns-10 same-length-25 same-length-26 returns-11
+    same-length-27 same-length-28 same-length-29 returns-12 same-length-30 same-length-31 same-length-32 returns-13 same-length-33
+    same-length-34 same-length-35 returns-14 same-length-36 same-length-37 same-length-38 returns-15 same-length-39 same-length-40
+    same-length-41 returns-16 same-length-42 same-length-43 same-length-44 returns-17 same-length-45 same-length-46 same-length-47
+    returns-18 same-length-48 same-length-49 same-length-50 returns-19)

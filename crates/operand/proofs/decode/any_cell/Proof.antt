@@ -11,15 +11,6 @@ returns : tie.Need-returns
 unfolding anyCell
 returns c = λ _. rw (lt-ltb _ _ (c .if1 .taken)) (gives refl)
 
-far-cell-requires : tie.Need-far-cell-requires
-far-cell-requires c κs = search needs
-
-same-length : tie.Need-same-length
-same-length c = search needs
-
-same-length-2 : tie.Need-same-length-2
-same-length-2 c = search needs
-
 returns-2 : tie.Need-returns-2
 unfolding anyCell
 returns-2 c =
@@ -27,4 +18,5 @@ returns-2 c =
     λ _. rw (le-ltb _ _ (at-if1 .if1 .left)) (c .before .before .before .before .far-cell .ensures _)
 
 pub any-cell-spec : {M : Type 1} → statement M
-any-cell-spec = tie.close (tie.spec returns far-cell-requires same-length same-length-2 returns-2)
+any-cell-spec =
+    tie.close (tie.spec returns (search needs) (search needs) (search needs) returns-2)

@@ -6,33 +6,6 @@ use borrow.Author.Needs.{needs}
 use Rattle.operand.proofs.decode.far_cell.Statement.{statement}
 use Rattle.operand.proofs.decode.far_cell.Tie as tie
 
-nibble-requires : tie.Need-nibble-requires
-nibble-requires c κs = search needs
-
-offset-requires : tie.Need-offset-requires
-offset-requires c κs = search needs
-
-bit-requires : tie.Need-bit-requires
-bit-requires c κs = search needs
-
-indexed-requires : tie.Need-indexed-requires
-indexed-requires c κs = search needs
-
-bit-requires-2 : tie.Need-bit-requires-2
-bit-requires-2 c κs = search needs
-
-bit-requires-3 : tie.Need-bit-requires-3
-bit-requires-3 c κs = search needs
-
-named-requires : tie.Need-named-requires
-named-requires c κs = search needs
-
-same-length : tie.Need-same-length
-same-length c = search needs
-
-same-length-2 : tie.Need-same-length-2
-same-length-2 c = search needs
-
 returns : tie.Need-returns
 unfolding farCell
 returns c =
@@ -45,19 +18,10 @@ returns c =
     λ _.
     bind _ (via offset (at-nibble .nibble .ensures) (at-offset .offset .ensures _))
     (bind _ (via (λ (x : Bool). indexed x (at-offset .offset .result .word)) (at-bit .bit .ensures) (at-indexed .indexed .ensures _))
-    (via₂ (λ (x y : Bool). named x y (at-indexed .indexed .result .word)) (at-bit2 .bit2 .ensures) (at-bit3 .bit3 .ensures) (c .before .before .before .before .named .ensures _)))
+    (via₂ (λ (x y : Bool). named x y (at-indexed .indexed .result .word)) (at-bit2 .bit2 .ensures) (at-bit3 .bit3 .ensures)
+    (c .before .before .before .before .named .ensures _)))
 
 pub far-cell-spec : {M : Type 1} → statement M
 far-cell-spec =
-    tie.close
-    (tie.spec
-    nibble-requires
-    offset-requires
-    bit-requires
-    indexed-requires
-    bit-requires-2
-    bit-requires-3
-    named-requires
-    same-length
-    same-length-2
-    returns)
+    tie.close (tie.spec (search needs) (search needs) (search needs) (search needs) (search needs) (search needs) (search needs)
+    (search needs) (search needs) returns)

@@ -4,19 +4,14 @@ use borrow.Author.Needs.{needs}
 use Rattle.operand.proofs.decode.indexed.Statement.{statement}
 use Rattle.operand.proofs.decode.indexed.Tie as tie
 
-add-index-requires : tie.Need-add-index-requires
-add-index-requires c κs = search needs
-
 returns : tie.Need-returns
 unfolding indexed
 returns c = λ _. rw (c .before .if1 .taken) (c .add-index .ensures _)
-
-give-word-requires : tie.Need-give-word-requires
-give-word-requires c κs = search needs
 
 returns-2 : tie.Need-returns-2
 unfolding indexed
 returns-2 c = λ _. rw (c .before .if1 .left) (c .give-word .ensures .1 _)
 
 pub indexed-spec : {M : Type 1} → statement M
-indexed-spec = tie.close (tie.spec add-index-requires returns give-word-requires returns-2)
+indexed-spec =
+    tie.close (tie.spec (search needs) returns (search needs) returns-2)

@@ -6,12 +6,6 @@ use borrow.Author.Needs.{needs}
 use Rattle.operand.proofs.decode.named.Statement.{statement}
 use Rattle.operand.proofs.decode.named.Tie as tie
 
-through-word-requires : tie.Need-through-word-requires
-through-word-requires c κs = search needs
-
-same-length : tie.Need-same-length
-same-length c = search needs
-
 returns : tie.Need-returns
 unfolding named
 returns c = λ _. rw (c .before .before .before .if1 .taken, c .before .before .if2 .taken) (c .through-word .ensures _)
@@ -19,15 +13,6 @@ returns c = λ _. rw (c .before .before .before .if1 .taken, c .before .before .
 returns-2 : tie.Need-returns-2
 unfolding named
 returns-2 c = λ _. rw (c .before .if1 .taken, c .if2 .left) (gives refl)
-
-through-pad-requires : tie.Need-through-pad-requires
-through-pad-requires c κs = search needs
-
-same-length-2 : tie.Need-same-length-2
-same-length-2 c = search needs
-
-same-length-3 : tie.Need-same-length-3
-same-length-3 c = search needs
 
 returns-3 : tie.Need-returns-3
 unfolding named
@@ -42,14 +27,5 @@ returns-4 c = λ _. rw (c .before .if1 .left, c .if3 .left) (gives refl)
 
 pub named-spec : {M : Type 1} → statement M
 named-spec =
-    tie.close
-    (tie.spec
-    through-word-requires
-    same-length
-    returns
-    returns-2
-    through-pad-requires
-    same-length-2
-    same-length-3
-    returns-3
+    tie.close (tie.spec (search needs) (search needs) returns returns-2 (search needs) (search needs) (search needs) returns-3
     returns-4)

@@ -5,19 +5,14 @@ use borrow.Author.Needs.{needs}
 use Rattle.operand.proofs.decode.offset.Statement.{statement}
 use Rattle.operand.proofs.decode.offset.Tie as tie
 
-next-word-requires : tie.Need-next-word-requires
-next-word-requires c κs = search needs
-
 returns : tie.Need-returns
 unfolding offset
 returns c = λ _. rw (eq-eqb _ _ (c .before .if1 .taken)) (c .next-word .ensures _)
-
-short-offset-requires : tie.Need-short-offset-requires
-short-offset-requires c κs = search needs
 
 returns-2 : tie.Need-returns-2
 unfolding offset
 returns-2 c = λ _. rw (ne-eqb _ _ (c .before .if1 .left)) (c .short-offset .ensures _)
 
 pub offset-spec : {M : Type 1} → statement M
-offset-spec = tie.close (tie.spec next-word-requires returns short-offset-requires returns-2)
+offset-spec =
+    tie.close (tie.spec (search needs) returns (search needs) returns-2)

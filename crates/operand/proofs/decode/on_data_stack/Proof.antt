@@ -13,4 +13,5 @@ unfolding _also_
 returns-2 c = rw (le-leb _ _ (c .if1 .left))
 
 pub on-data-stack-spec : {M : Type 1} → statement M
-on-data-stack-spec = tie.close (tie.spec returns returns-2)
+on-data-stack-spec =
+    tie.close (tie.spec returns returns-2)

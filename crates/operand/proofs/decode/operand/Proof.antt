@@ -5,21 +5,6 @@ use borrow.Author.Needs.{needs}
 use Rattle.operand.proofs.decode.operand.Statement.{statement}
 use Rattle.operand.proofs.decode.operand.Tie as tie
 
-next-byte-requires : tie.Need-next-byte-requires
-next-byte-requires c κs = search needs
-
-any-cell-requires : tie.Need-any-cell-requires
-any-cell-requires c κs = search needs
-
-answered-requires : tie.Need-answered-requires
-answered-requires c κs = search needs
-
-same-length : tie.Need-same-length
-same-length c = search needs
-
-same-length-2 : tie.Need-same-length-2
-same-length-2 c = search needs
-
 returns : tie.Need-returns
 unfolding operandOf
 returns c =
@@ -31,11 +16,4 @@ returns c =
 
 pub operand-spec : {M : Type 1} → statement M
 operand-spec =
-    tie.close
-    (tie.spec
-    next-byte-requires
-    any-cell-requires
-    answered-requires
-    same-length
-    same-length-2
-    returns)
+    tie.close (tie.spec (search needs) (search needs) (search needs) (search needs) (search needs) returns)

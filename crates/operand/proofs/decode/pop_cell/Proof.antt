@@ -9,30 +9,6 @@ use borrow.Author.Needs.{needs}
 use Rattle.operand.proofs.decode.pop_cell.Statement.{statement}
 use Rattle.operand.proofs.decode.pop_cell.Tie as tie
 
-peek-pad-requires : tie.Need-peek-pad-requires
-peek-pad-requires c κs = search needs
-
-cast-top : tie.Need-cast-top
-cast-top c = search needs
-
-on-data-stack-requires : tie.Need-on-data-stack-requires
-on-data-stack-requires c κs = search needs
-
-need-requires : tie.Need-need-requires
-need-requires c κs = search needs
-
-down-requires : tie.Need-down-requires
-down-requires c κs = search needs
-
-poke-pad-requires : tie.Need-poke-pad-requires
-poke-pad-requires c κs = search needs
-
-same-length : tie.Need-same-length
-same-length c = search needs
-
-same-length-2 : tie.Need-same-length-2
-same-length-2 c = search needs
-
 returns : tie.Need-returns
 unfolding popCell
 returns c =
@@ -41,19 +17,11 @@ returns c =
     let at-on-data-stack = at-need .before in
     let at-peek-pad = at-on-data-stack .before .before in
     λ _.
-    bind _ (at-peek-pad .peek-pad .ensures _) (seq (via (λ b. need b offStack) (at-on-data-stack .on-data-stack .ensures) (at-need .need .ensures offStack refl _))
+    bind _ (at-peek-pad .peek-pad .ensures _) (seq
+    (via (λ b. need b offStack) (at-on-data-stack .on-data-stack .ensures) (at-need .need .ensures offStack refl _))
     (seq (via (poke cpu _) (at-down .down .ensures) (c .before .before .before .before .poke-pad .ensures _)) (gives refl)))
 
 pub pop-cell-spec : {M : Type 1} → statement M
 pop-cell-spec =
-    tie.close
-    (tie.spec
-    peek-pad-requires
-    cast-top
-    on-data-stack-requires
-    need-requires
-    down-requires
-    poke-pad-requires
-    same-length
-    same-length-2
-    returns)
+    tie.close (tie.spec (search needs) (search needs) (search needs) (search needs) (search needs) (search needs) (search needs)
+    (search needs) returns)

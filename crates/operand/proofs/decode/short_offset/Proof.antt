@@ -6,15 +6,6 @@ use borrow.Author.Needs.{needs}
 use Rattle.operand.proofs.decode.short_offset.Statement.{statement}
 use Rattle.operand.proofs.decode.short_offset.Tie as tie
 
-next-byte-requires : tie.Need-next-byte-requires
-next-byte-requires c κs = search needs
-
-word-of-requires : tie.Need-word-of-requires
-word-of-requires c κs = search needs
-
-give-word-requires : tie.Need-give-word-requires
-give-word-requires c κs = search needs
-
 returns : tie.Need-returns
 unfolding shortOffset
 returns c =
@@ -23,4 +14,4 @@ returns c =
 
 pub short-offset-spec : {M : Type 1} → statement M
 short-offset-spec =
-    tie.close (tie.spec next-byte-requires word-of-requires give-word-requires returns)
+    tie.close (tie.spec (search needs) (search needs) (search needs) returns)

@@ -6,15 +6,10 @@ use borrow.Author.Needs.{needs}
 use Rattle.operand.proofs.decode.through_byte.Statement.{statement}
 use Rattle.operand.proofs.decode.through_byte.Tie as tie
 
-peek-pad-requires : tie.Need-peek-pad-requires
-peek-pad-requires c κs = search needs
-
-cast-to : tie.Need-cast-to
-cast-to c = search needs
-
 returns : tie.Need-returns
 unfolding throughByte
 returns c = λ _. bind _ (c .before .peek-pad .ensures _) (gives refl)
 
 pub through-byte-spec : {M : Type 1} → statement M
-through-byte-spec = tie.close (tie.spec peek-pad-requires cast-to returns)
+through-byte-spec =
+    tie.close (tie.spec (search needs) (search needs) returns)

@@ -6,12 +6,10 @@ use borrow.Author.Needs.{needs}
 use Rattle.operand.proofs.decode.through_word.Statement.{statement}
 use Rattle.operand.proofs.decode.through_word.Tie as tie
 
-peek-pad-word-requires : tie.Need-peek-pad-word-requires
-peek-pad-word-requires c κs = search needs
-
 returns : tie.Need-returns
 unfolding throughWord
 returns c = λ _. bind _ (c .peek-pad-word .ensures _) (gives refl)
 
 pub through-word-spec : {M : Type 1} → statement M
-through-word-spec = tie.close (tie.spec peek-pad-word-requires returns)
+through-word-spec =
+    tie.close (tie.spec (search needs) returns)

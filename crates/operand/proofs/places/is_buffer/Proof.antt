@@ -3,12 +3,6 @@ use borrow.Author.Needs.{needs}
 use Rattle.operand.proofs.places.is_buffer.Statement.{statement}
 use Rattle.operand.proofs.places.is_buffer.Tie as tie
 
-enum-known-place : tie.Need-enum-known-place
-enum-known-place c = search needs
-
-enum-told : tie.Need-enum-told
-enum-told c = search needs
-
 returns : tie.Need-returns
 returns c = rw (c .before .place .given .1)
 
@@ -16,4 +10,5 @@ returns-2 : tie.Need-returns-2
 returns-2 c = search needs
 
 pub is-buffer-spec : {M : Type 1} → statement M
-is-buffer-spec = tie.close (tie.spec enum-known-place enum-told returns returns-2)
+is-buffer-spec =
+    tie.close (tie.spec (search needs) (search needs) (search needs) returns returns-2)

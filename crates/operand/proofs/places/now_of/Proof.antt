@@ -3,17 +3,12 @@ use borrow.Author.Needs.{needs}
 use Rattle.operand.proofs.places.now_of.Statement.{statement}
 use Rattle.operand.proofs.places.now_of.Tie as tie
 
-enum-known-o : tie.Need-enum-known-o
-enum-known-o c = search needs
-
-enum-known-o-2 : tie.Need-enum-known-o-2
-enum-known-o-2 c = search needs
-
 returns : tie.Need-returns
-returns c = rw (c .before .o .given .1)
+returns c = rw (c .before .before .o .given .1)
 
 returns-2 : tie.Need-returns-2
 returns-2 c = rw (c .before .o2 .given .1)
 
 pub now-of-spec : {M : Type 1} → statement M
-now-of-spec = tie.close (tie.spec enum-known-o enum-known-o-2 returns returns-2)
+now-of-spec =
+    tie.close (tie.spec (search needs) (search needs) returns returns-2)

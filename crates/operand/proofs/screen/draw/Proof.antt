@@ -8,30 +8,15 @@ use borrow.Author.Needs.{needs}
 use Rattle.operand.proofs.screen.draw.Statement.{statement}
 use Rattle.operand.proofs.screen.draw.Tie as tie
 
-on-screen-requires : tie.Need-on-screen-requires
-on-screen-requires c κs = search needs
-
-need-requires : tie.Need-need-requires
-need-requires c κs = search needs
-
-poke-vdp-requires : tie.Need-poke-vdp-requires
-poke-vdp-requires c κs = search needs
-
-same-length : tie.Need-same-length
-same-length c = search needs
-
-same-length-2 : tie.Need-same-length-2
-same-length-2 c = search needs
-
 returns : tie.Need-returns
 unfolding draw
 returns c =
     let at-need = c .before .before .before .before .before .before .before in
     let at-on-screen = at-need .before in
     λ _.
-    seq (via (λ b. need b offScreen) (at-on-screen .on-screen .ensures) (at-need .need .ensures offScreen refl _)) (c .before .before .before .before .poke-vdp .ensures _)
+    seq (via (λ b. need b offScreen) (at-on-screen .on-screen .ensures) (at-need .need .ensures offScreen refl _))
+    (c .before .before .before .before .poke-vdp .ensures _)
 
 pub draw-spec : {M : Type 1} → statement M
 draw-spec =
-    tie.close
-    (tie.spec on-screen-requires need-requires poke-vdp-requires same-length same-length-2 returns)
+    tie.close (tie.spec (search needs) (search needs) (search needs) (search needs) (search needs) returns)

@@ -7,18 +7,6 @@ use borrow.Author.Needs.{needs}
 use Rattle.operand.proofs.screen.position.Statement.{statement}
 use Rattle.operand.proofs.screen.position.Tie as tie
 
-peek-pad-requires : tie.Need-peek-pad-requires
-peek-pad-requires c κs = search needs
-
-peek-pad-requires-2 : tie.Need-peek-pad-requires-2
-peek-pad-requires-2 c κs = search needs
-
-position-of-requires : tie.Need-position-of-requires
-position-of-requires c κs = search needs
-
-give-word-requires : tie.Need-give-word-requires
-give-word-requires c κs = search needs
-
 returns : tie.Need-returns
 unfolding position
 returns c = (
@@ -29,10 +17,4 @@ returns c = (
 
 pub position-spec : {M : Type 1} → statement M
 position-spec =
-    tie.close
-    (tie.spec
-    peek-pad-requires
-    peek-pad-requires-2
-    position-of-requires
-    give-word-requires
-    returns)
+    tie.close (tie.spec (search needs) (search needs) (search needs) (search needs) returns)

@@ -8,29 +8,14 @@ use borrow.Author.Needs.{needs}
 use Rattle.operand.proofs.screen.screen_byte.Statement.{statement}
 use Rattle.operand.proofs.screen.screen_byte.Tie as tie
 
-position-requires : tie.Need-position-requires
-position-requires c κs = search needs
-
-on-screen-requires : tie.Need-on-screen-requires
-on-screen-requires c κs = search needs
-
-need-requires : tie.Need-need-requires
-need-requires c κs = search needs
-
-cast-at : tie.Need-cast-at
-cast-at c = search needs
-
-peek-vdp-requires : tie.Need-peek-vdp-requires
-peek-vdp-requires c κs = search needs
-
 returns : tie.Need-returns
 unfolding screenByte
 returns c =
     λ _.
     bind _ (c .before .before .before .before .position .ensures .1 _)
-    (seq (via (λ b. need b offScreen) (c .before .before .before .on-screen .ensures) (c .before .before .need .ensures offScreen refl _)) (c .peek-vdp .ensures _))
+    (seq (via (λ b. need b offScreen) (c .before .before .before .on-screen .ensures) (c .before .before .need .ensures offScreen refl _))
+    (c .peek-vdp .ensures _))
 
 pub screen-byte-spec : {M : Type 1} → statement M
 screen-byte-spec =
-    tie.close
-    (tie.spec position-requires on-screen-requires need-requires cast-at peek-vdp-requires returns)
+    tie.close (tie.spec (search needs) (search needs) (search needs) (search needs) (search needs) returns)

@@ -5,18 +5,6 @@ use borrow.Author.Needs.{needs}
 use Rattle.operand.proofs.screen.to_screen.Statement.{statement}
 use Rattle.operand.proofs.screen.to_screen.Tie as tie
 
-position-requires : tie.Need-position-requires
-position-requires c κs = search needs
-
-draw-requires : tie.Need-draw-requires
-draw-requires c κs = search needs
-
-same-length : tie.Need-same-length
-same-length c = search needs
-
-same-length-2 : tie.Need-same-length-2
-same-length-2 c = search needs
-
 returns : tie.Need-returns
 unfolding toScreen
 returns c =
@@ -25,4 +13,4 @@ returns c =
 
 pub to-screen-spec : {M : Type 1} → statement M
 to-screen-spec =
-    tie.close (tie.spec position-requires draw-requires same-length same-length-2 returns)
+    tie.close (tie.spec (search needs) (search needs) (search needs) (search needs) returns)

@@ -8,14 +8,9 @@ use borrow.Author.Needs.{needs}
 use Rattle.operand.proofs.stacks.need_on_stack.Statement.{statement}
 use Rattle.operand.proofs.stacks.need_on_stack.Tie as tie
 
-on-sub-stack-requires : tie.Need-on-sub-stack-requires
-on-sub-stack-requires c κs = search needs
-
-need-requires : tie.Need-need-requires
-need-requires c κs = search needs
-
 returns : tie.Need-returns
 returns c = λ _. via (λ (t : Bool). need t offStack) (c .before .on-sub-stack .ensures) (c .need .ensures offStack refl _)
 
 pub need-on-stack-spec : {M : Type 1} → statement M
-need-on-stack-spec = tie.close (tie.spec on-sub-stack-requires need-requires returns)
+need-on-stack-spec =
+    tie.close (tie.spec (search needs) (search needs) returns)

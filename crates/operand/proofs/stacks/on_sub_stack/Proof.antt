@@ -17,4 +17,5 @@ unfolding _also_
 returns-3 c = simp (eq-eqb _ _ (c .before .if1 .left), le-leb _ _ (c .if2 .left))
 
 pub on-sub-stack-spec : {M : Type 1} → statement M
-on-sub-stack-spec = tie.close (tie.spec returns returns-2 returns-3)
+on-sub-stack-spec =
+    tie.close (tie.spec returns returns-2 returns-3)

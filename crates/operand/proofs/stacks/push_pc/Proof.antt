@@ -6,21 +6,6 @@ use borrow.Author.Needs.{needs}
 use Rattle.operand.proofs.stacks.push_pc.Statement.{statement}
 use Rattle.operand.proofs.stacks.push_pc.Tie as tie
 
-raise-requires : tie.Need-raise-requires
-raise-requires c κs = search needs
-
-cast-at : tie.Need-cast-at
-cast-at c = search needs
-
-poke-pad-word-requires : tie.Need-poke-pad-word-requires
-poke-pad-word-requires c κs = search needs
-
-same-length : tie.Need-same-length
-same-length c = search needs
-
-same-length-2 : tie.Need-same-length-2
-same-length-2 c = search needs
-
 returns : tie.Need-returns
 unfolding pushPc
 returns c =
@@ -30,5 +15,4 @@ returns c =
 
 pub push-pc-spec : {M : Type 1} → statement M
 push-pc-spec =
-    tie.close
-    (tie.spec raise-requires cast-at poke-pad-word-requires same-length same-length-2 returns)
+    tie.close (tie.spec (search needs) (search needs) (search needs) (search needs) (search needs) returns)

@@ -9,33 +9,6 @@ use borrow.Author.Needs.{needs}
 use Rattle.operand.proofs.stacks.raise.Statement.{statement}
 use Rattle.operand.proofs.stacks.raise.Tie as tie
 
-peek-pad-requires : tie.Need-peek-pad-requires
-peek-pad-requires c κs = search needs
-
-cast-up : tie.Need-cast-up
-cast-up c = search needs
-
-add-up : tie.Need-add-up
-add-up c = search needs
-
-cast-b : tie.Need-cast-b
-cast-b c = search needs
-
-need-on-stack-requires : tie.Need-need-on-stack-requires
-need-on-stack-requires c κs = search needs
-
-poke-pad-requires : tie.Need-poke-pad-requires
-poke-pad-requires c κs = search needs
-
-give-byte-requires : tie.Need-give-byte-requires
-give-byte-requires c κs = search needs
-
-same-length : tie.Need-same-length
-same-length c = search needs
-
-same-length-2 : tie.Need-same-length-2
-same-length-2 c = search needs
-
 returns : tie.Need-returns
 unfolding raise
 returns c =
@@ -50,15 +23,5 @@ returns c =
 
 pub raise-spec : {M : Type 1} → statement M
 raise-spec =
-    tie.close
-    (tie.spec
-    peek-pad-requires
-    cast-up
-    add-up
-    cast-b
-    need-on-stack-requires
-    poke-pad-requires
-    give-byte-requires
-    same-length
-    same-length-2
-    returns)
+    tie.close (tie.spec (search needs) (search needs) (search needs) (search needs) (search needs) (search needs) (search needs)
+    (search needs) (search needs) returns)

@@ -7,21 +7,6 @@ use borrow.Author.Needs.{needs}
 use Rattle.operand.proofs.status.set_condition.Statement.{statement}
 use Rattle.operand.proofs.status.set_condition.Tie as tie
 
-peek-pad-requires : tie.Need-peek-pad-requires
-peek-pad-requires c κs = search needs
-
-with-condition-requires : tie.Need-with-condition-requires
-with-condition-requires c κs = search needs
-
-poke-pad-requires : tie.Need-poke-pad-requires
-poke-pad-requires c κs = search needs
-
-same-length : tie.Need-same-length
-same-length c = search needs
-
-same-length-2 : tie.Need-same-length-2
-same-length-2 c = search needs
-
 returns : tie.Need-returns
 unfolding setCondition
 returns c =
@@ -33,11 +18,4 @@ returns c =
 
 pub set-condition-spec : {M : Type 1} → statement M
 set-condition-spec =
-    tie.close
-    (tie.spec
-    peek-pad-requires
-    with-condition-requires
-    poke-pad-requires
-    same-length
-    same-length-2
-    returns)
+    tie.close (tie.spec (search needs) (search needs) (search needs) (search needs) (search needs) returns)

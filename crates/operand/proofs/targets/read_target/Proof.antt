@@ -7,27 +7,6 @@ use borrow.Author.Needs.{needs}
 use Rattle.operand.proofs.targets.read_target.Statement.{statement}
 use Rattle.operand.proofs.targets.read_target.Tie as tie
 
-byte-count-requires : tie.Need-byte-count-requires
-byte-count-requires c κs = search needs
-
-operand-requires : tie.Need-operand-requires
-operand-requires c κs = search needs
-
-now-of-requires : tie.Need-now-of-requires
-now-of-requires c κs = search needs
-
-place-of-requires : tie.Need-place-of-requires
-place-of-requires c κs = search needs
-
-value-requires : tie.Need-value-requires
-value-requires c κs = search needs
-
-same-length : tie.Need-same-length
-same-length c = search needs
-
-same-length-2 : tie.Need-same-length-2
-same-length-2 c = search needs
-
 returns : tie.Need-returns
 returns c =
     let at-place-of = c .before .before .before .before .before .before .before in
@@ -39,19 +18,12 @@ returns c =
       c .before .before .before .before .value .ensures .0,
       λ f _. further
           (leaves (λ (x : Cell). value (start .args .wide) x >>= f x)
-          (apart (at-operand .operand .result) (via operandOf (at-byte-count .byte-count .ensures .0) (at-operand .operand .ensures .1 _)) (at-now-of .now-of .ensures) (at-place-of .place-of .ensures)))
+          (apart (at-operand .operand .result) (via operandOf (at-byte-count .byte-count .ensures .0) (at-operand .operand .ensures .1 _))
+          (at-now-of .now-of .ensures) (at-place-of .place-of .ensures)))
           (leaves (f _) (c .before .before .before .before .value .ensures .1 _)),
     )
 
 pub read-target-spec : {M : Type 1} → statement M
 read-target-spec =
-    tie.close
-    (tie.spec
-    byte-count-requires
-    operand-requires
-    now-of-requires
-    place-of-requires
-    value-requires
-    same-length
-    same-length-2
+    tie.close (tie.spec (search needs) (search needs) (search needs) (search needs) (search needs) (search needs) (search needs)
     returns)

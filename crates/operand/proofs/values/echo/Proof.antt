@@ -6,18 +6,6 @@ use borrow.Author.Needs.{needs}
 use Rattle.operand.proofs.values.echo.Statement.{statement}
 use Rattle.operand.proofs.values.echo.Tie as tie
 
-ends-in-buffer-requires : tie.Need-ends-in-buffer-requires
-ends-in-buffer-requires c κs = search needs
-
-to-screen-requires : tie.Need-to-screen-requires
-to-screen-requires c κs = search needs
-
-same-length : tie.Need-same-length
-same-length c = search needs
-
-same-length-2 : tie.Need-same-length-2
-same-length-2 c = search needs
-
 returns : tie.Need-returns
 unfolding echo
 returns c =
@@ -31,11 +19,4 @@ returns-2 c = λ _. rw (sym (c .before .ends-in-buffer .ensures) ∙ c .if1 .lef
 
 pub echo-spec : {M : Type 1} → statement M
 echo-spec =
-    tie.close
-    (tie.spec
-    ends-in-buffer-requires
-    to-screen-requires
-    same-length
-    same-length-2
-    returns
-    returns-2)
+    tie.close (tie.spec (search needs) (search needs) (search needs) (search needs) returns returns-2)

@@ -6,27 +6,6 @@ use borrow.Author.Needs.{needs}
 use Rattle.operand.proofs.values.operand_value.Statement.{statement}
 use Rattle.operand.proofs.values.operand_value.Tie as tie
 
-byte-count-requires : tie.Need-byte-count-requires
-byte-count-requires c κs = search needs
-
-operand-requires : tie.Need-operand-requires
-operand-requires c κs = search needs
-
-now-of-requires : tie.Need-now-of-requires
-now-of-requires c κs = search needs
-
-place-of-requires : tie.Need-place-of-requires
-place-of-requires c κs = search needs
-
-value-requires : tie.Need-value-requires
-value-requires c κs = search needs
-
-same-length : tie.Need-same-length
-same-length c = search needs
-
-same-length-2 : tie.Need-same-length-2
-same-length-2 c = search needs
-
 returns : tie.Need-returns
 unfolding operandValue
 returns c =
@@ -41,13 +20,5 @@ returns c =
 
 pub operand-value-spec : {M : Type 1} → statement M
 operand-value-spec =
-    tie.close
-    (tie.spec
-    byte-count-requires
-    operand-requires
-    now-of-requires
-    place-of-requires
-    value-requires
-    same-length
-    same-length-2
+    tie.close (tie.spec (search needs) (search needs) (search needs) (search needs) (search needs) (search needs) (search needs)
     returns)

@@ -6,18 +6,6 @@ use borrow.Author.Needs.{needs}
 use Rattle.operand.proofs.values.refresh.Statement.{statement}
 use Rattle.operand.proofs.values.refresh.Tie as tie
 
-is-buffer-requires : tie.Need-is-buffer-requires
-is-buffer-requires c κs = search needs
-
-load-buffer-requires : tie.Need-load-buffer-requires
-load-buffer-requires c κs = search needs
-
-same-length : tie.Need-same-length
-same-length c = search needs
-
-same-length-2 : tie.Need-same-length-2
-same-length-2 c = search needs
-
 returns : tie.Need-returns
 unfolding refresh
 returns c =
@@ -31,5 +19,4 @@ returns-2 c = λ _. rw (sym (c .before .is-buffer .ensures) ∙ c .if1 .left) id
 
 pub refresh-spec : {M : Type 1} → statement M
 refresh-spec =
-    tie.close
-    (tie.spec is-buffer-requires load-buffer-requires same-length same-length-2 returns returns-2)
+    tie.close (tie.spec (search needs) (search needs) (search needs) (search needs) returns returns-2)

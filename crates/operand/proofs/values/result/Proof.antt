@@ -5,24 +5,6 @@ use borrow.Author.Needs.{needs}
 use Rattle.operand.proofs.values.result.Statement.{statement}
 use Rattle.operand.proofs.values.result.Tie as tie
 
-store-value-requires : tie.Need-store-value-requires
-store-value-requires c κs = search needs
-
-low-of-requires : tie.Need-low-of-requires
-low-of-requires c κs = search needs
-
-echo-requires : tie.Need-echo-requires
-echo-requires c κs = search needs
-
-same-length : tie.Need-same-length
-same-length c = search needs
-
-same-length-2 : tie.Need-same-length-2
-same-length-2 c = search needs
-
-same-length-3 : tie.Need-same-length-3
-same-length-3 c = search needs
-
 returns : tie.Need-returns
 unfolding result
 returns c =
@@ -32,12 +14,4 @@ returns c =
 
 pub result-spec : {M : Type 1} → statement M
 result-spec =
-    tie.close
-    (tie.spec
-    store-value-requires
-    low-of-requires
-    echo-requires
-    same-length
-    same-length-2
-    same-length-3
-    returns)
+    tie.close (tie.spec (search needs) (search needs) (search needs) (search needs) (search needs) (search needs) returns)

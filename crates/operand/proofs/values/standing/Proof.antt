@@ -6,18 +6,9 @@ use borrow.Author.Needs.{needs}
 use Rattle.operand.proofs.values.standing.Statement.{statement}
 use Rattle.operand.proofs.values.standing.Tie as tie
 
-word-at-requires : tie.Need-word-at-requires
-word-at-requires c κs = search needs
-
 returns : tie.Need-returns
 unfolding standing
 returns c = rw (c .before .if1 .taken) (omega arith, λ _. c .word-at .ensures _)
-
-byte-at-requires : tie.Need-byte-at-requires
-byte-at-requires c κs = search needs
-
-widened-requires : tie.Need-widened-requires
-widened-requires c κs = search needs
 
 returns-2 : tie.Need-returns-2
 unfolding standing
@@ -25,4 +16,4 @@ returns-2 c = rw (c .before .before .if1 .left) (c .widened .ensures .0, λ _. h
 
 pub standing-spec : {M : Type 1} → statement M
 standing-spec =
-    tie.close (tie.spec word-at-requires returns byte-at-requires widened-requires returns-2)
+    tie.close (tie.spec (search needs) returns (search needs) (search needs) returns-2)

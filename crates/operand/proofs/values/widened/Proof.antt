@@ -4,12 +4,6 @@ use borrow.Author.Needs.{needs}
 use Rattle.operand.proofs.values.widened.Statement.{statement}
 use Rattle.operand.proofs.values.widened.Tie as tie
 
-cast-w : tie.Need-cast-w
-cast-w c = search needs
-
-give-word-requires : tie.Need-give-word-requires
-give-word-requires c κs = search needs
-
 returns : tie.Need-returns
 returns c = (
   omega (arith, c .give-word .ensures .0, c .before .struct-known .given),
@@ -17,4 +11,5 @@ returns c = (
 )
 
 pub widened-spec : {M : Type 1} → statement M
-widened-spec = tie.close (tie.spec cast-w give-word-requires returns)
+widened-spec =
+    tie.close (tie.spec (search needs) (search needs) returns)

@@ -1,18 +1,18 @@
 -- What the code's values say, in the words of the rules.
 use mathlib.Core.Path.{_≡_}
-use mathlib.Core.Bool.{Bool, true, false}
 use mathlib.Core.List.{List}
-use Prim.Native.Nat.{ℕ}
+use Prim.Native.Nat.{ℕ, _+_}
 use lib.Dec.{eqb}
-use lib.ListN.{length}
+use lib.ListN.{length, set}
 use denote.Ref.{RefT, now}
 use denote.Triple.Both.{Both}
-use Rattle.rules.specs.Machine.{pick, cpu, vdp, register, size, Mem, mem}
-use Rattle.rules.specs.Journal.{Note, stood, mark, unsound}
-use Rattle.rules.specs.Rules.{Rule, Out, got, stopped, after, valued}
+use Rattle.rules.specs.Machine.{pick, Kind, cpu, vdp, register, upon, size, Mem, mem, beside}
+use Rattle.rules.specs.Rules.{Rule, Deed, Out, got, stopped, then, after, valued, peek, poke}
 use Rattle.rules.specs.Calls as calls
 use Rattle.machine.specs.declared.state.Now.{Now}
 use Rattle.machine.specs.declared.journal.Mark.{Mark}
+use Rattle.machine.specs.declared.memory.Memory.{Memory}
+use Rattle.machine.specs.declared.memory.Memory.the-variants.{Cpu, Vdp, Register}
 
 -- ---- the state, with the memories beside it, as a machine of the rules
 
@@ -32,21 +32,33 @@ stand a pc m = record { answer = a; pc = pc; mem = m }
 abbrev pub outOf : Stand → Out (Unit {0})
 outOf s = outs (s .answer) (s .pc) (s .mem)
 
--- the state beside pad, VDP RAM, registers and journal
-abbrev pub standing : List ℕ → List ℕ → List ℕ → List ℕ → Now → Stand
-standing p v g j n = stand (n .answer) (n .pc) (mem p v g j (n .used))
+-- the state beside image, pad, VDP RAM, registers and journal
+abbrev pub standing : List ℕ → List ℕ → List ℕ → List ℕ → List ℕ → Now → Stand
+standing i p v g j n = stand (n .answer) (n .pc) (mem i p v g j (n .used))
 
 -- from s the rule goes to t, and gives a
-pub record Goes {A : Type 0} (i : List ℕ) (s : Stand) (r : Rule A) (a : A) (t : Stand) : Type 0 where
-  pub is : valued a (outOf t) ≡ after i (outOf s) r
+pub record Goes {A : Type 0} (s : Stand) (r : Rule A) (a : A) (t : Stand) : Type 0 where
+  pub is : valued a (outOf t) ≡ after (outOf s) r
 
 -- what is left to do: to do r from s, it is enough to do q from t
-pub record Owes {A : Type 0} (i : List ℕ) (s : Stand) (r : Rule A) (t : Stand) (q : Rule A) : Type 0 where
-  pub is : after i (outOf t) q ≡ after i (outOf s) r
+pub record Owes {A : Type 0} (s : Stand) (r : Rule A) (t : Stand) (q : Rule A) : Type 0 where
+  pub is : after (outOf t) q ≡ after (outOf s) r
 
--- beside pad, VDP RAM, registers and journal
-abbrev pub out : List ℕ → List ℕ → List ℕ → List ℕ → Now → Out (Unit {0})
-out p v g j n = outs (n .answer) (n .pc) (mem p v g j (n .used))
+-- ---- the states that the code makes
+
+abbrev pub began : ℕ → ℕ → Now
+began pc u = record { pc = pc; used = u; answer = 0; byte = 0; word = 0 }
+
+abbrev pub refusedBy : ℕ → Now → Now
+refusedBy a n = record { pc = n .pc; used = n .used; answer = a; byte = 0; word = 0 }
+
+-- a byte read, and where pc is then
+abbrev pub readBy : ℕ → ℕ → Now → Now
+readBy pc b n = record { pc = pc; used = n .used; answer = n .answer; byte = b; word = 0 }
+
+-- one journal word more is used
+abbrev pub laidBy : Now → Now
+laidBy n = record { pc = n .pc; used = n .used + 1; answer = n .answer; byte = 0; word = 0 }
 
 -- ---- what a contract says
 
@@ -129,22 +141,40 @@ pub record Rest (q : Parts) : Type 0 where
   pub regs : Unseen (q .regs)
   pub journal : Unseen (q .journal)
 
+-- the memories before and after, with so many journal words used
+abbrev pub memBefore : (q : Parts) → Rest q → ℕ → Mem
+memBefore q w u =
+    mem (before (q .image) (w .image)) (before (q .pad) (w .pad)) (before (q .vram) (w .vram)) (before (q .regs) (w .regs)) (before (q .journal) (w .journal)) u
+
+abbrev pub memAfter : (q : Parts) → Rest q → ℕ → Mem
+memAfter q w u =
+    mem (after′ (q .image) (w .image)) (after′ (q .pad) (w .pad)) (after′ (q .vram) (w .vram)) (after′ (q .regs) (w .regs)) (after′ (q .journal) (w .journal)) u
+
 abbrev pub start : (q : Parts) → Rest q → Now → Stand
-start q w m = standing (before (q .pad) (w .pad)) (before (q .vram) (w .vram)) (before (q .regs) (w .regs)) (before (q .journal) (w .journal)) m
+start q w m = stand (m .answer) (m .pc) (memBefore q w (m .used))
 
 abbrev pub end : (q : Parts) → Rest q → Now → Stand
-end q w n = standing (after′ (q .pad) (w .pad)) (after′ (q .vram) (w .vram)) (after′ (q .regs) (w .regs)) (after′ (q .journal) (w .journal)) n
+end q w n = stand (n .answer) (n .pc) (memAfter q w (n .used))
 
 -- m goes in, n comes out, and a value: whatever the rest of the machine is, the rule goes from what was lent to what is left, and gives the value
 abbrev pub Gives : {A : Type 0} → A → Rule A → (Parts → Parts) → Now → Now → Type 0
-Gives a r f m n = (rest : Rest (f unseenAll)) → Goes (before (f unseenAll .image) (rest .image)) (start (f unseenAll) rest m) r a (end (f unseenAll) rest n)
+Gives a r f m n = (rest : Rest (f unseenAll)) → Goes (start (f unseenAll) rest m) r a (end (f unseenAll) rest n)
 
-abbrev pub Does : Rule (Unit {0}) → (Parts → Parts) → Now → Now → Type 0
+abbrev pub Does : Deed → (Parts → Parts) → Now → Now → Type 0
 Does r f m n = Gives tt r f m n
 
 -- in a loop's invariant: of the whole, from m, this is left to do, from n
 abbrev pub Leaves : {A : Type 0} → Rule A → Rule A → (Parts → Parts) → Now → Now → Type 0
-Leaves r q f m n = (rest : Rest (f unseenAll)) → Owes (before (f unseenAll .image) (rest .image)) (start (f unseenAll) rest m) r (end (f unseenAll) rest n) q
+Leaves r q f m n = (rest : Rest (f unseenAll)) → Owes (start (f unseenAll) rest m) r (end (f unseenAll) rest n) q
+
+-- the mark of a step that began at pc is taken
+abbrev pub Marks : ℕ → (Parts → Parts) → Now → Now → Type 0
+Marks pc f m n =
+    (rest : Rest (f unseenAll)) → outOf (end (f unseenAll) rest n) ≡ then (outOf (start (f unseenAll) rest m)) (λ _ pc₁ m₁. calls.takeMark pc pc₁ m₁)
+
+-- the memories, of whose journal u words were used, become what a function makes of them, and v are used
+abbrev pub Became : (Mem → Mem) → (Parts → Parts) → ℕ → ℕ → Type 0
+Became g f u v = (rest : Rest (f unseenAll)) → memAfter (f unseenAll) rest v ≡ g (memBefore (f unseenAll) rest u)
 
 -- the lengths of what is lent
 abbrev pub IsPad : RefT (List ℕ) → Type 0
@@ -156,17 +186,35 @@ IsVram s = length (now s) ≡ size vdp
 abbrev pub IsRegs : RefT (List ℕ) → Type 0
 IsRegs s = length (now s) ≡ size register
 
--- ---- what a journal word says
+-- ---- one memory, whichever it is
 
-abbrev pub marks : Note → Bool
-marks (stood k a b) = false
-marks (mark pc) = true
-marks unsound = false
+abbrev pub kindOf : Memory → Kind
+kindOf Cpu = cpu
+kindOf Vdp = vdp
+kindOf Register = register
 
-abbrev pub namesCell : Note → Bool
-namesCell (stood k a b) = true
-namesCell (mark pc) = false
-namesCell unsound = false
+abbrev pub IsOf : Memory → RefT (List ℕ) → Type 0
+IsOf k s = length (now s) ≡ size (kindOf k)
+
+-- a machine with other cells of one kind, and the journal and the used words beside them
+abbrev pub with : Kind → List ℕ → List ℕ → ℕ → Mem → Mem
+with k c j u m = mem (m .image) (upon k c (m .pad) (m .pad)) (upon k (m .vram) c (m .vram)) (upon k (m .regs) (m .regs) c) j u
+
+-- a byte is loaded from one of its cells: in any machine that has these
+abbrev pub Loads : Memory → ℕ → Lent → Now → Now → Type 0
+Loads k a s m n =
+    (x : Mem) → Goes (stand (m .answer) (m .pc) (with (kindOf k) (now (s .entry)) (x .journal) (m .used) x)) (peek (kindOf k) a) (n .byte)
+    (stand (n .answer) (n .pc) (with (kindOf k) (now (s .entry)) (x .journal) (n .used) x))
+
+-- a byte is stored into one
+abbrev pub Stores : Memory → ℕ → ℕ → Lent → Lent → Now → Now → Type 0
+Stores k a b s j m n =
+    (x : Mem) → Goes (stand (m .answer) (m .pc) (with (kindOf k) (now (s .entry)) (now (j .entry)) (m .used) x)) (poke (kindOf k) a b) tt
+    (stand (n .answer) (n .pc) (with (kindOf k) (now (s .exit)) (now (j .exit)) (n .used) x))
+
+-- a byte is put into a cell, if there is one
+abbrev pub Puts : ℕ → ℕ → Lent → Type 0
+Puts a b s = now (s .exit) ≡ set (now (s .entry)) a b
 
 -- ---- the newest mark
 
@@ -176,3 +224,7 @@ foundAt n pc = pick (eqb n 0) calls.lost (calls.found n pc)
 
 abbrev pub found : Mark → calls.Find
 found r = foundAt (r .words) (r .pc)
+
+-- it is found among the used words of a journal
+abbrev pub Finds : Lent → ℕ → Mark → Type 0
+Finds j u r = found r ≡ calls.scan u (now (j .entry))

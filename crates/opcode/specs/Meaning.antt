@@ -2,8 +2,8 @@
 use Prim.Native.Nat.{ℕ}
 use Rattle.rules.specs.Answers.{number}
 use Rattle.rules.specs.Opcodes as opcodes
-use Rattle.flow.specs.Tests.{testOf}
-use Rattle.arith.specs.Effects.{oneOf, twoOf}
+use Rattle.flow.specs.Meaning.{testOf}
+use Rattle.arith.specs.Meaning.{oneOf, twoOf}
 use Rattle.opcode.specs.declared.class.Task.{Task}
 use Rattle.opcode.specs.declared.class.Task.the-variants.{Rtn, Rtnc, Rand, Back, Long, Call, All, Fmt, Test, Move, Branch, One, Fetch, Case, Push, Two, Mul, Div, Ex}
 use Rattle.opcode.specs.declared.class.Class.{Class}
