@@ -1,17 +1,19 @@
 /* The adapter from the proved archive to the calls of the comparison. */
 #include "argolythe.h"
+#include "cases.h"
 #include "machine.h"
 
-/* The numbers as the comparison's report; `out` is pc, used, steps, stores. */
-static peer_report report_of(uint8_t answer, const uint64_t out[4])
+/* The numbers as the comparison's report. */
+static peer_report report_of(uint8_t answer, const uint64_t out[ARGOLYTHE_OUTS])
 {
-    return (peer_report){answer, (uint16_t)out[0], (size_t)out[1], (uint32_t)out[2], out[3]};
+    return (peer_report){answer, (uint16_t)out[ARGOLYTHE_OUT_PC], (size_t)out[ARGOLYTHE_OUT_USED],
+                         (uint32_t)out[ARGOLYTHE_OUT_STEPS], out[ARGOLYTHE_OUT_STORES]};
 }
 
 /* Numbers that no call may leave standing, so that one that says nothing is seen. */
-static void spoil(uint64_t out[4])
+static void spoil(uint64_t out[ARGOLYTHE_OUTS])
 {
-    for (int i = 0; i < 4; i++)
+    for (int i = 0; i < ARGOLYTHE_OUTS; i++)
         out[i] = 0xA5A5A5A5A5A5A5A5u;
 }
 
@@ -20,7 +22,7 @@ static peer_report step(const uint8_t *image, size_t image_len, uint8_t *pad, si
                         uint8_t *vdp, size_t vdp_len, uint8_t *reg, size_t reg_len,
                         uint32_t *journal, size_t journal_len, uint16_t pc, size_t used)
 {
-    uint64_t out[4];
+    uint64_t out[ARGOLYTHE_OUTS];
     spoil(out);
     uint8_t answer = argolythe_step(image, image_len, pad, pad_len, vdp, vdp_len, reg, reg_len,
                                     journal, journal_len, pc, used, out);
@@ -32,7 +34,7 @@ static peer_report run(const uint8_t *image, size_t image_len, uint8_t *pad, siz
                        uint8_t *vdp, size_t vdp_len, uint8_t *reg, size_t reg_len,
                        uint32_t *journal, size_t journal_len, uint16_t pc, size_t used, uint32_t n)
 {
-    uint64_t out[4];
+    uint64_t out[ARGOLYTHE_OUTS];
     spoil(out);
     uint8_t answer = argolythe_run(image, image_len, pad, pad_len, vdp, vdp_len, reg, reg_len,
                                    journal, journal_len, pc, used, n, out);
@@ -44,18 +46,18 @@ static peer_report step_back(uint8_t *pad, size_t pad_len, uint8_t *vdp, size_t 
                              uint8_t *reg, size_t reg_len, uint32_t *journal, size_t journal_len,
                              uint16_t pc, size_t used)
 {
-    uint64_t out[4];
+    uint64_t out[ARGOLYTHE_OUTS];
     spoil(out);
     uint8_t answer = argolythe_step_back(pad, pad_len, vdp, vdp_len, reg, reg_len,
                                          journal, journal_len, pc, used, out);
-    out[2] -= answer == 0 ? 1 : 0;
+    out[ARGOLYTHE_OUT_STEPS] -= answer == ARGOLYTHE_DONE ? 1 : 0;
     return report_of(answer, out);
 }
 
 /* The harness asks for a view by lengths alone, so it is lent bytes of the adapter's own, as many as the longest lent part has. */
 static size_t view(size_t pad_len, size_t vdp_len, int memory, size_t at, size_t len, size_t *offset)
 {
-    static const uint8_t pad[256 + 8], vdp[16384 + 8];
+    static const uint8_t pad[ARGOLYTHE_PAD + CASE_LENT_EXTRA], vdp[ARGOLYTHE_VDP + CASE_LENT_EXTRA];
     *offset = (size_t)-1;
     return argolythe_view(pad, pad_len, vdp, vdp_len, (uint8_t)memory, at, len, offset);
 }

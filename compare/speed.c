@@ -12,10 +12,10 @@
 
 enum {
     IMAGE_LEN = 32768,
-    PAD_LEN = 256,
-    VDP_LEN = 16384,
-    REG_LEN = 8,
-    JOURNAL_LEN = 1048576,
+    PAD_LEN = ARGOLYTHE_PAD,
+    VDP_LEN = ARGOLYTHE_VDP,
+    REG_LEN = ARGOLYTHE_REG,
+    JOURNAL_LEN = ARGOLYTHE_JOURNAL_MAX,
     ROUNDS = 3,
     SLICES = 8 /* the two take turns so often in a round */
 };
@@ -170,6 +170,12 @@ static inline void count(struct tally *t, uint64_t answer, uint64_t pc, uint64_t
     t->sum = (t->sum * 31 + answer) * 31 + (pc << 40 ^ used << 20 ^ steps << 8 ^ stores);
 }
 
+/* What the archive left in `out`, likewise. */
+static inline void count_out(struct tally *t, uint64_t answer, const uint64_t *out)
+{
+    count(t, answer, out[ARGOLYTHE_OUT_PC], out[ARGOLYTHE_OUT_USED], out[ARGOLYTHE_OUT_STEPS], out[ARGOLYTHE_OUT_STORES]);
+}
+
 /* One run of the peer's, from an empty journal. */
 static size_t peer_runs(struct side *s, uint32_t n, struct tally *t)
 {
@@ -183,12 +189,12 @@ static size_t peer_runs(struct side *s, uint32_t n, struct tally *t)
 /* One run of the archive's, likewise. */
 static size_t our_runs(struct side *s, uint32_t n, struct tally *t)
 {
-    uint64_t out[4];
+    uint64_t out[ARGOLYTHE_OUTS];
     uint8_t answer = argolythe_run(image, IMAGE_LEN, s->pad, PAD_LEN, s->vdp, VDP_LEN, s->reg, REG_LEN, s->journal,
                                    JOURNAL_LEN, s->pc, 0, n, out);
-    s->pc = (uint16_t)out[0];
-    count(t, answer, out[0], out[1], out[2], out[3]);
-    return (size_t)out[1];
+    s->pc = (uint16_t)out[ARGOLYTHE_OUT_PC];
+    count_out(t, answer, out);
+    return (size_t)out[ARGOLYTHE_OUT_USED];
 }
 
 /* n calls for one step each. */
@@ -208,13 +214,13 @@ static void peer_steps(struct side *s, uint32_t n, struct tally *t)
 static void our_steps(struct side *s, uint32_t n, struct tally *t)
 {
     size_t used = 0;
-    uint64_t out[4];
+    uint64_t out[ARGOLYTHE_OUTS];
     for (uint32_t i = 0; i < n; i++) {
         uint8_t answer = argolythe_step(image, IMAGE_LEN, s->pad, PAD_LEN, s->vdp, VDP_LEN, s->reg, REG_LEN,
                                         s->journal, JOURNAL_LEN, s->pc, used, out);
-        s->pc = (uint16_t)out[0];
-        used = (size_t)out[1];
-        count(t, answer, out[0], out[1], out[2], out[3]);
+        s->pc = (uint16_t)out[ARGOLYTHE_OUT_PC];
+        used = (size_t)out[ARGOLYTHE_OUT_USED];
+        count_out(t, answer, out);
     }
 }
 
@@ -233,13 +239,13 @@ static void peer_backs(struct side *s, uint32_t n, size_t used, struct tally *t)
 /* The archive's, likewise. */
 static void our_backs(struct side *s, uint32_t n, size_t used, struct tally *t)
 {
-    uint64_t out[4];
+    uint64_t out[ARGOLYTHE_OUTS];
     for (uint32_t i = 0; i < n; i++) {
         uint8_t answer = argolythe_step_back(s->pad, PAD_LEN, s->vdp, VDP_LEN, s->reg, REG_LEN, s->journal,
                                              JOURNAL_LEN, s->pc, used, out);
-        s->pc = (uint16_t)out[0];
-        used = (size_t)out[1];
-        count(t, answer, out[0], out[1], 0, out[3]);
+        s->pc = (uint16_t)out[ARGOLYTHE_OUT_PC];
+        used = (size_t)out[ARGOLYTHE_OUT_USED];
+        count(t, answer, out[ARGOLYTHE_OUT_PC], out[ARGOLYTHE_OUT_USED], 0, out[ARGOLYTHE_OUT_STORES]);
     }
 }
 

@@ -26,15 +26,8 @@
  * the stack pointer in its functions, and the return addresses. The 128 bytes below the stack
  * pointer that x86-64 leaves to a function come on top. This is read off the archive, not proved.
  *
- * From Rust, each slice is two arguments here as well:
- *
- *     extern "C" {
- *         fn argolythe_step_back(
- *             pad: *mut u8, pad_len: usize, vdp: *mut u8, vdp_len: usize,
- *             reg: *mut u8, reg_len: usize, journal: *mut u32, journal_len: usize,
- *             pc: u16, used: usize, out: *mut u64,
- *         ) -> u8;
- *     }
+ * From Rust a slice is two arguments as well: host/host.rs has the declarations, and host/host.c is
+ * a program in C.
  */
 #ifndef ARGOLYTHE_H
 #define ARGOLYTHE_H
