@@ -2,11 +2,21 @@
 use bench::at::At;
 use bench::runs::Report;
 use lines::print;
+ghost use Prim.Native.Nat.{_≤_};
+ghost use lib.ListN.{length};
 
 // MOVE from GROM 0 to VDP 0: >8000 bytes, and >8001, which moves one.
 const MOVE_8000: [u8; 7] = [0x31, 0x80, 0x00, 0xA0, 0x00, 0x00, 0x00];
 
 const MOVE_8001: [u8; 7] = [0x31, 0x80, 0x01, 0xA0, 0x00, 0x00, 0x00];
+
+// A heading, and the first bytes of what a run printed.
+fn write_run(what: &[u8], out: &[u8; 216502], count: usize)
+    requires { ⌜ count ≤ length (now out) ⌝ }
+{
+    io::write_all(1, what);
+    desk::show::write_text(out, count);
+}
 
 // What a run leaves of a machine that had only its subroutine stack set.
 fn show_run(what: &[u8], r: Report, pad: &[u8; 256], vram: &[u8; 16384], regs: &[u8; 8]) {
@@ -16,8 +26,7 @@ fn show_run(what: &[u8], r: Report, pad: &[u8; 256], vram: &[u8; 16384], regs: &
     let mut out = [0u8; 216502];
     pad0[0x73] = 0x7E;
     let count = desk::show::put_run(&mut out, r, &pad0, pad, &vram0, vram, &regs0, regs);
-    io::write_all(1, what);
-    desk::show::write_text(&out, count);
+    write_run(what, &out, count);
 }
 
 // One step of such a machine.

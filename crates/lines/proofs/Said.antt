@@ -1,6 +1,6 @@
 -- What the code's answers say, case by case.
 -- Assumes nothing.
-use mathlib.Core.Path.{_≡_, sym, _∙_}
+use mathlib.Core.Path.{_≡_, sym, _∙_, subst}
 use mathlib.Core.List.{List}
 use Prim.Native.Nat.{ℕ}
 use Rattle.lines.specs.Lines as rules
@@ -25,3 +25,7 @@ says-bad text line e = record { means = e; within = tt }
 -- what an equal line of the rules says
 pub says-same : {text : List ℕ} {r : Line} {line other : rules.Line} → Says text r line → other ≡ line → Says text r other
 says-same s e = record { means = s .means ∙ sym e; within = s .within }
+
+-- and of the case that the code's line was found to be
+pub says-as : {text : List ℕ} {r v : Line} {line : rules.Line} → Says text r line → r ≡ v → Says text v line
+says-as {text} {line = line} s e = subst (λ (x : Line). Says text x line) e s
