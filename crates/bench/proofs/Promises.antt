@@ -6,8 +6,8 @@ use Prim.Native.Nat.{ℕ}
 use Rattle.rules.specs.Machine.{pick, State}
 use Rattle.rules.specs.Answers.{number, wrongLength}
 use Rattle.rules.specs.Calls.{memFits, fits, Reply, done, refused, made, Report, report, run, Find, found, lost, scan, backTo, fitBack, stepBack, Memory, view}
-use Rattle.rules.specs.Demands.{Good, Listed, Demand1, Demand2, Op, play, kept, Ends, Demand3}
-use Rattle.rules.proofs.Named.{NamedReply, named-back, Answered, named-run}
+use Rattle.rules.specs.Demands.{Good, BackCause, wrong-parts, no-record, Demand1, Demand2, Op, play, kept, Ends, Demand3}
+use Rattle.rules.proofs.Named.{Answered, named-run}
 use Rattle.rules.proofs.Replies as replies-of
 use Rattle.rules.proofs.Run as run-of
 use Rattle.rules.proofs.History as history
@@ -68,24 +68,25 @@ module _ (n : ℕ) {s : State} {x : Returned runs.Report} (e : Tells reported (r
 
 -- ---- a step back
 
--- one that is refused leaves the state that it found
+-- one that is refused has a cause, and leaves the state that it found
 abbrev StaysAs : State → Reply → Type 0
 StaysAs s (done t) = Unit {0}
-StaysAs s (refused n t) = t ≡ s
+StaysAs s (refused n t) = BackCause s n × (t ≡ s)
 
 stays : (s : State) → StaysAs s (stepBack s)
 unfolding stepBack fitBack
-stays s = go (memFits (s .mem)) (scan (s .mem .used) (s .mem .journal))
+stays s = go (memFits (s .mem)) refl (scan (s .mem .used) (s .mem .journal)) refl
   where
-    go : (c : Bool) (f : Find) → StaysAs s (pick c (backTo f s) (refused (number wrongLength) s))
-    go true (found n pc) = tt
-    go true lost = refl
-    go false f = refl
+    go : (c : Bool) → memFits (s .mem) ≡ c → (f : Find) → scan (s .mem .used) (s .mem .journal) ≡ f
+        → StaysAs s (pick c (backTo f s) (refused (number wrongLength) s))
+    go true e (found n pc) k = tt
+    go true e lost k = (no-record e k, refl)
+    go false e f k = (wrong-parts e, refl)
 
--- Demand 1. A refused step back: its answer is one of the listed refusals, and it has touched nothing.
+-- Demand 1. A refused step back: 11 where test 11 fails, 12 where no sound record is found, and it has touched nothing.
 pub step-back-refused : {s : State} {x : Returned walk.Reply} → Tells told backing s x → (x .result .answer ≡ 0 → ⊥)
-    → Listed (x .result .answer) × (leaves x ≡ s)
-step-back-refused {s = s} e h = (subst NamedReply (refuses e h) (named-back s), subst (StaysAs s) (refuses e h) (stays s))
+    → BackCause s (x .result .answer) × (leaves x ≡ s)
+step-back-refused {s = s} e h = subst (StaysAs s) (refuses e h) (stays s)
 
 -- ---- any sequence of calls
 

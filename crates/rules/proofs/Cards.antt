@@ -1,7 +1,7 @@
 -- The bench cards, by computation over a machine of full size.
 use mathlib.Core.Path.{_≡_, refl}
 use mathlib.Core.Bool.{true}
-use Rattle.rules.specs.Cards.{cards, facts, everyPasses}
+use Rattle.rules.specs.Cards.{cards, facts, bufferFacts, everyPasses}
 use Rattle.rules.proofs.Compute.{everyRule}
 
 pub cards-pass : everyPasses cards ≡ true
@@ -11,3 +11,7 @@ cards-pass = refl
 pub facts-hold : everyPasses facts ≡ true
 unfolding everyRule
 facts-hold = refl
+
+pub buffer-holds : everyPasses bufferFacts ≡ true
+unfolding everyRule
+buffer-holds = refl

@@ -11,5 +11,6 @@ pub mod Run
 pub mod Opcodes
 pub mod Named
 pub mod Replies
+pub mod Wrong
 pub mod Compute
 pub mod Cards

@@ -8,7 +8,7 @@ use Rattle.rules.specs.Machine.{Mem, State, state}
 use Rattle.rules.specs.Journal.{Store, blanked}
 use Rattle.rules.specs.Rules.{Out, got, stopped}
 use Rattle.rules.specs.Calls.{fits, Reply, done, refused, attempt, settle, fitStep, step, stepStores}
-use Rattle.rules.specs.Demands.{Listed, begunWords, Demand1, Demand2}
+use Rattle.rules.specs.Demands.{Listed, Cause, unfit, stops, begunWords, Demand1, Demand2}
 use Rattle.rules.proofs.Stores.{used-after}
 use Rattle.rules.proofs.Steps.{Tried, late, tried}
 use Rattle.rules.proofs.Fits.{step-cases}
@@ -24,18 +24,18 @@ module _ (s : State) where
   Met (done t) = Demand2 s t (length (stepStores s))
   Met (refused n t) = Listed n → Demand1 s n t
 
-  left-refused : (n k : ℕ) → begunWords s ≡ k → Listed n → Demand1 s n (state (s .pc) (blanked k (s .mem)))
-  left-refused n k e l = subst (λ (x : ℕ). Demand1 s n (state (s .pc) (blanked x (s .mem)))) e
-      (record { listed = l; address = refl; memories = λ k. refl; used = refl; words = refl })
+  left-refused : (n k : ℕ) → Cause s n → begunWords s ≡ k → Listed n → Demand1 s n (state (s .pc) (blanked k (s .mem)))
+  left-refused n k c e l = subst (λ (x : ℕ). Demand1 s n (state (s .pc) (blanked x (s .mem)))) e
+      (record { cause = c; listed = l; address = refl; memories = λ k. refl; used = refl; words = refl })
 
   met-settle : (o : Out (Unit {0})) → fits (s .mem) ≡ true → attempt s ≡ o → Met (settle s o)
   met-settle (got a pc₁ m₁) f e =
       record { fit = f; left = e; count = refl; words = tried-count (subst (Tried (s .pc) (s .mem) (stepStores s)) e (tried (s .pc) (s .mem))) }
-  met-settle (stopped n m₁) f e = left-refused n (m₁ .used - s .mem .used) (rw (f, e))
+  met-settle (stopped n m₁) f e = left-refused n (m₁ .used - s .mem .used) (stops f e) (rw (f, e))
 
   met : Met (step s)
   unfolding fitStep
-  met = step-cases s Met (λ f. met-settle (attempt s) f refl) (λ f. left-refused 11 0 (rw f))
+  met = step-cases s Met (λ f. met-settle (attempt s) f refl) (λ f. left-refused 11 0 (unfit f) (rw f))
 
   pub demand1 : (n : ℕ) (t : State) → step s ≡ refused n t → Demand1 s n t
   demand1 n t e = subst Met e met (subst NamedReply e (named-step s))

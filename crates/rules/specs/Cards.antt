@@ -5,7 +5,7 @@ use Prim.Native.Nat.{ℕ, zero, suc, _/_, _%_}
 use lib.Dec.{eqb}
 use lib.ListN.{getD, replicate}
 use lib.Seq.{sets}
-use Rattle.rules.specs.Machine.{_also_, Kind, cpu, vdp, register, size, group, Mem, mem, state, cells, put, subPointer, status, ypt, xpt, seedCell, registerCopy, randomNumber}
+use Rattle.rules.specs.Machine.{_also_, Kind, cpu, vdp, register, size, group, Mem, mem, state, cells, put, subPointer, status, buffer, ypt, xpt, seedCell, registerCopy, randomNumber}
 use Rattle.rules.specs.Calls.{Report, run}
 
 -- bytes from an address on
@@ -164,4 +164,37 @@ facts =
     ∷ card (code 6 0x390001010000 0) [] 6 6 (reg 1 0xB9 ∷ pad registerCopy 0xB9 ∷ [])
     -- "ALL: 768 screen bytes from 0, then >7E and >7F become 0."
     ∷ card (code 2 0x072A 0) (pad ypt 1 ∷ pad xpt 1 ∷ []) 770 2 (pad ypt 0 ∷ pad xpt 0 ∷ vram 0 0x2A ∷ vram 767 0x2A ∷ vram 768 0 ∷ [])
+    ∷ []
+
+-- ---- the character buffer: the second paragraph of "Operands"
+
+-- row 0, column 2: the screen byte there, and what stands in >7D
+abbrev pub screen : ℕ → ℕ → List Holds → List Holds
+screen b at hs = vram 2 b ∷ pad xpt 2 ∷ pad buffer at ∷ hs
+
+abbrev pub bufferFacts : List Case
+bufferFacts =
+    -- "If a result's last byte .. goes to pad >7D, that byte then goes to the screen too": a word at >7C
+    card (code 2 0x877C 0) (screen 0x55 7 (pad status 1 ∷ [])) 3 2 (screen 0 0 (pad status 0 ∷ []))
+    -- "A read whose first byte is pad >7D first stores the screen byte there": a word at >7D, whose last byte goes to >7E
+    ∷ card (code 2 0x857D 0) (screen 0x55 7 []) 3 2 (screen 0x55 0xAA (pad ypt 0xFF ∷ []))
+    -- "each half of MUL's or DIV's is one": MUL's low half, and its high half
+    ∷ card (code 3 0xAA7C03 0) (screen 0x55 7 (pad status 0x50 ∷ [])) 3 3 (screen 0xF0 0xF0 (pad status 0 ∷ []))
+    ∷ card (code 3 0xAA7D03 0) (screen 0x60 7 []) 4 3 (screen 1 1 (pad ypt 0x20 ∷ []))
+    -- DIV's remainder, its dividend's low half read as it stands; and its quotient
+    ∷ card (code 3 0xAE7C02 0) (screen 0x55 9 []) 4 3 (screen 1 1 (pad status 4 ∷ []))
+    ∷ card (code 3 0xAE7D10 0) (screen 1 7 []) 5 3 (screen 0x10 0x10 (pad ypt 0 ∷ pad status 0 ∷ []))
+    -- "MOVE's length operand is read as any other": >0001 of the screen byte and the row, and not >0101
+    ∷ card (code 5 0x307D000000 0) (pad ypt 1 ∷ pad buffer 1 ∷ []) 6 5 (pad 0 0x30 ∷ pad buffer 0 ∷ [])
+    -- "Index words, pointers, .. MOVE's bytes and format strings do neither": MOVE's destination and its source
+    ∷ card (code 6 0x3100017D0000 0) (screen 0x55 7 []) 5 6 (screen 0x55 0x31 [])
+    ∷ card (code 5 0x350001007D 0) (screen 0x55 7 []) 5 5 (screen 0x55 7 (pad 0 7 ∷ []))
+    -- an index word, >0010; a pointer
+    ∷ card (code 4 0x86C0007D 0) (pad ypt 0x10 ∷ pad 0x10 9 ∷ vram 0x200 0x55 ∷ []) 1 4 (pad 0x10 0 ∷ pad buffer 0 ∷ [])
+    ∷ card (code 3 0x86907D 0) (screen 0x55 0x10 (pad 0x10 9 ∷ [])) 1 3 (screen 0x55 0x10 (pad 0x10 0 ∷ []))
+    -- a format operand: the character that stands there is shown
+    ∷ card (code 4 0x08E07DFB 0) (screen 0x55 0x41 []) 5 4 (vram 2 0x41 ∷ pad buffer 0x41 ∷ pad xpt 3 ∷ [])
+    -- both stores of EX
+    ∷ card (code 3 0xC07D00 0) (screen 0x55 7 (pad 0 0x41 ∷ [])) 4 3 (screen 0x41 0x41 (pad 0 0x55 ∷ []))
+    ∷ card (code 3 0xC0007D 0) (screen 0x55 7 (pad 0 0x41 ∷ [])) 4 3 (screen 0x41 0x41 (pad 0 0x55 ∷ []))
     ∷ []

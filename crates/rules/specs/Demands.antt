@@ -1,14 +1,14 @@
--- The words in which the demands are stated: what is supposed of a state, and what a sequence of calls leaves. README has the three demands; they are quoted here.
+-- The words in which the demands are stated: what is supposed of a state, and what a sequence of calls leaves. docs/DEMANDS.md has the three demands; they are quoted here.
 use mathlib.Core.Path.{_≡_}
-use mathlib.Core.Bool.{true}
+use mathlib.Core.Bool.{true, false}
 use mathlib.Core.List.{List, [], _∷_, _++_, map}
 use Prim.Native.Nat.{ℕ, zero, suc, _+_, _-_, _<_}
 use lib.ListN.{length, getD, take}
 use Rattle.rules.specs.Machine.{pick, Kind, Mem, State, cells}
-use Rattle.rules.specs.Answers.{Why, number}
+use Rattle.rules.specs.Answers.{Why, number, wrongLength, noRecord}
 use Rattle.rules.specs.Journal.{markWord, wordOf, blank}
 use Rattle.rules.specs.Rules.{Out, got, stopped}
-use Rattle.rules.specs.Calls.{fits, Reply, done, refused, left, attempt, step, stepStores, stepBack, Report, report}
+use Rattle.rules.specs.Calls.{memFits, fits, Reply, done, refused, left, attempt, step, stepStores, lost, scan, stepBack, Report, report}
 
 -- ---- what is supposed: no more than the types of a byte and of a 16-bit number give
 
@@ -36,6 +36,11 @@ pub record Listed (n : ℕ) : Type 0 where
   pub why : Why
   pub is : n ≡ number why
 
+-- why a step of s is refused with n: test 11 fails, or the rules' attempt stops so
+pub data Cause (s : State) : ℕ → Type 0 where
+  unfit : fits (s .mem) ≡ false → Cause s (number wrongLength)
+  stops : {n : ℕ} {m : Mem} → fits (s .mem) ≡ true → attempt s ≡ stopped n m → Cause s n
+
 -- how many journal words are in use where an attempt ends
 abbrev pub usedOf : Out (Unit {0}) → ℕ
 usedOf (got a pc m) = m .used
@@ -47,6 +52,8 @@ begunWords s = pick (fits (s .mem)) (usedOf (attempt s) - s .mem .used) 0
 
 -- What is so of the state t that a step of s leaves which is refused with n:
 pub record Demand1 (s : State) (n : ℕ) (t : State) : Type 0 where
+  -- "gives exactly the refusal that document 01 lists for that input"
+  pub cause : Cause s n
   pub listed : Listed n
   -- "A refused step returns program address, CPU RAM, VDP RAM and VDP registers to their values before it"
   pub address : t .pc ≡ s .pc
@@ -55,9 +62,14 @@ pub record Demand1 (s : State) (n : ℕ) (t : State) : Type 0 where
   -- "and zeroes only the journal words that it had begun to use"
   pub words : t .mem .journal ≡ blank (begunWords s) (s .mem .used) (s .mem .journal)
 
+-- why a step back of s is refused with n: test 11 fails, or no sound record is found
+pub data BackCause (s : State) : ℕ → Type 0 where
+  wrong-parts : memFits (s .mem) ≡ false → BackCause s (number wrongLength)
+  no-record : memFits (s .mem) ≡ true → scan (s .mem .used) (s .mem .journal) ≡ lost → BackCause s (number noRecord)
+
 -- ---- demand 2
 
--- What is so of the state t that an accepted step of s leaves, and of the number n of its stores: "those that 01's rules give"
+-- What is so of the state t that an accepted step of s leaves, and of the number n of its stores: those "that 01's rules give"
 pub record Demand2 (s t : State) (n : ℕ) : Type 0 where
   pub fit : fits (s .mem) ≡ true
   pub left : attempt s ≡ got tt (t .pc) (t .mem)

@@ -1,0 +1,52 @@
+-- The wrong programs that 01 names, each shut out by a demand as it is stated: no such program meets the record.
+use mathlib.Core.Path.{_≡_, _∙_, sym, subst}
+use mathlib.Core.Bool.{true}
+use mathlib.Core.List.{[]}
+use Prim.Native.Nat.{ℕ}
+use native.Mathlib.Omega.{arith}
+use Rattle.rules.specs.Machine.{_also_, Mem, mem, State, state}
+use Rattle.rules.specs.Rules.{Out, got, stopped}
+use Rattle.rules.specs.Calls.{imageFits, fits, attempt}
+use Rattle.rules.specs.Demands.{Cause, unfit, stops, Demand1, Demand2, Demand3}
+use Rattle.rules.proofs.Fits.{false-true}
+
+-- ---- demand 1
+
+abbrev Going : Out (Unit {0}) → Type 0
+Going (got a pc m) = Unit {0}
+Going (stopped n m) = ⊥
+
+-- refusing everything: what the rules accept is refused with no number at all
+pub refuses-everything : {s t : State} {n pc : ℕ} {m : Mem} → fits (s .mem) ≡ true → attempt s ≡ got tt pc m → Demand1 s n t → ⊥
+refuses-everything {s} f e d = go (d .cause)
+  where
+    go : {n : ℕ} → Cause s n → ⊥
+    go (unfit u) = false-true (sym u ∙ f)
+    go (stops _ k) = subst Going (sym e ∙ k) tt
+
+-- one fixed answer, 2: a machine without an image is to be refused with 11
+nowhere : State
+nowhere = state 0 (mem [] [] [] [] [] 0)
+
+pub answers-2 : ((s : State) → Demand1 s 2 s) → ⊥
+unfolding nowhere imageFits _also_
+answers-2 d = go (d nowhere .cause)
+  where
+    go : Cause nowhere 2 → ⊥
+    go (stops f _) = false-true f
+
+-- ---- demand 2
+
+-- doing nothing: an accepted step has laid at least its mark
+pub does-nothing : {s : State} {n : ℕ} → Demand2 s s n → ⊥
+does-nothing d = omega (arith, d .words)
+
+-- an invented store count: there is one only
+pub one-count : {s t : State} {n k : ℕ} → Demand2 s t n → Demand2 s t k → n ≡ k
+one-count d e = d .count ∙ sym (e .count)
+
+-- ---- demand 3
+
+-- a journal of made-up size: there is one only
+pub one-size : {s₀ s t : State} {n : ℕ} → Demand3 s₀ n s → Demand3 s₀ n t → s .mem .used ≡ t .mem .used
+one-size d e = d .used ∙ sym (e .used)
