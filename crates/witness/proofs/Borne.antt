@@ -1,0 +1,77 @@
+-- Each contract of bench bears its demand: by the theorems of bench, of what the call returned.
+use mathlib.Core.Path.{_≡_, refl, _∙_, ap, sym, subst}
+use mathlib.Core.Bool.{Bool, true, false}
+use mathlib.Core.List.{List}
+use Prim.Native.Nat.{ℕ, zero, suc, _<_}
+use native.Mathlib.Omega.{arith}
+use lib.ListN.{length}
+use Rattle.rules.specs.Machine.{Mem, mem, State, state, cells}
+use Rattle.rules.specs.Journal.{blanked}
+use Rattle.rules.specs.Calls.{fits, Reply, done, refused, left, step, stepStores, stepBack, run}
+use Rattle.rules.specs.Demands.{Good, Accepted}
+use Rattle.rules.proofs.History.{back-undoes}
+use Rattle.bench.specs.declared.at.At.{At}
+use Rattle.bench.specs.declared.walk.Reply as walk
+use Rattle.bench.specs.declared.runs.Report as runs
+use Rattle.bench.specs.Meaning.{stateAt, Returned, leaves, told, stepping, backing, reported, Tells}
+use Rattle.bench.proofs.Steps.{AreBytes, bytes-of}
+use Rattle.bench.proofs.Replies.{accepts, leads}
+use Rattle.bench.proofs.Promises.{demand1, demand2, run-unfit, run-ends, step-back-refused}
+use Rattle.witness.specs.Demanded as demanded
+use Rattle.witness.specs.Demanded.{Home}
+
+-- bytes are bytes, and an address has 16 bits: what the types give
+pub good-of : {i p v g j : List ℕ} {at : At} → at .pc < 65536 → AreBytes p → AreBytes v → AreBytes g → Good (stateAt i p v g j at)
+good-of {i} {p} {v} {g} {j} {at} l a b c = record { address = l; bytes = bytes-of (mem i p v g j (at .used)) a b c }
+
+-- an answer is 0, or not
+data Answer (n : ℕ) : Type 0 where
+  is-0 : n ≡ 0 → Answer n
+  not-0 : (n ≡ 0 → ⊥) → Answer n
+
+answer : (n : ℕ) → Answer n
+answer zero = is-0 refl
+answer (suc n) = not-0 (λ e. omega arith)
+
+module _ {s : State} {x : Returned walk.Reply} where
+  pub step-bears : Tells told stepping s x → demanded.Step s x
+  step-bears e = go (answer (x .result .answer))
+    where
+      go : Answer (x .result .answer) → demanded.Step s x
+      go (is-0 z) = demanded.accepted z (demand2 e z)
+      go (not-0 h) = demanded.refused h (demand1 e h .0) (demand1 e h .1)
+
+  pub back-bears : Tells told backing s x → demanded.Back s x
+  back-bears e = go (answer (x .result .answer))
+    where
+      go : Answer (x .result .answer) → demanded.Back s x
+      go (is-0 z) = demanded.accepted z (accepts e z)
+      go (not-0 h) = demanded.refused h (step-back-refused e h .0) (step-back-refused e h .1)
+
+  -- a refused step has changed neither address nor memories
+  pub home-refused : Tells told stepping s x → (x .result .answer ≡ 0 → ⊥) → Home s (leaves x)
+  home-refused e h =
+      let d = demand1 e h .0 in
+      record { address = d .address; memories = d .memories; used = d .used }
+
+pub run-bears : (n : ℕ) {s : State} {x : Returned runs.Report} → Tells reported (run n) s x → demanded.Run n s x
+run-bears n {s} {x} e = go (fits (s .mem)) refl
+  where
+    go : (c : Bool) → fits (s .mem) ≡ c → demanded.Run n s x
+    go true f = demanded.fit f (run-ends n e f)
+    go false f = demanded.unfit f (run-unfit n e f)
+
+-- an accepted step, and the step back from where it led
+pub home-back : {s : State} {x y : Returned walk.Reply} → Good s → Tells told stepping s x → x .result .answer ≡ 0 → Tells told backing
+    (leaves x) y → Home s (leaves y)
+home-back {s} {x} {y} g e z k =
+    let there : step s ≡ done (leaves x) = accepts e z in
+    let undone : Mem = blanked (suc (length (stepStores s))) (s .mem) in
+    let back : stepBack (leaves x) ≡ done (state (s .pc) undone) = ap (λ (r : Reply). stepBack (left r)) (sym there)
+    ∙ back-undoes s g (subst Accepted (sym there) tt) in
+    let same : leaves y ≡ state (s .pc) undone = leads k ∙ ap left back in
+    record {
+      address = ap (λ (t : State). t .pc) same;
+      memories = λ m. ap (λ (t : State). cells m (t .mem)) same;
+      used = ap (λ (t : State). t .mem .used) same;
+    }

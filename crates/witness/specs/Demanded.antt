@@ -1,0 +1,45 @@
+-- The demands, in the form that a contract has: of the state that a call was lent, and of what it returned.
+use mathlib.Core.Path.{_≡_}
+use mathlib.Core.Bool.{true, false}
+use Prim.Native.Nat.{ℕ}
+use Rattle.rules.specs.Machine.{Kind, State, cells}
+use Rattle.rules.specs.Answers.{number, wrongLength}
+use Rattle.rules.specs.Calls.{fits, done, stepBack, report}
+use Rattle.rules.specs.Demands.{Demand1, BackCause, Demand2, Ends}
+use Rattle.machine.specs.Meaning.{Parts, Rest, unseenAll, memAfter}
+use Rattle.bench.specs.declared.at.At.{At}
+use Rattle.bench.specs.declared.walk.Reply.{Reply}
+use Rattle.bench.specs.declared.runs.Report.{Report}
+use Rattle.bench.specs.Meaning.{Returned, returnedOf, lentTo, leaves, reported}
+
+-- whatever the rest of the machine is
+abbrev pub Meets : {A : Type 0} → (State → Returned A → Type 0) → (Parts → Parts) → At → A → Type 0
+Meets D parts at r = (rest : Rest (parts unseenAll)) → D (lentTo (parts unseenAll) rest at) (returnedOf (memAfter (parts unseenAll) rest (at .used)) r)
+
+-- ---- a step: demand 1, or demand 2
+
+pub data Step (s : State) (x : Returned Reply) : Type 0 where
+  refused : (x .result .answer ≡ 0 → ⊥) → Demand1 s (x .result .answer) (leaves x) → x .result .stores ≡ 0 → Step s x
+  accepted : x .result .answer ≡ 0 → Demand2 s (leaves x) (x .result .stores) → Step s x
+
+-- ---- a step back: refused for its cause, with all as it was, or the rules' own
+
+pub data Back (s : State) (x : Returned Reply) : Type 0 where
+  refused : (x .result .answer ≡ 0 → ⊥) → BackCause s (x .result .answer) → leaves x ≡ s → Back s x
+  accepted : x .result .answer ≡ 0 → stepBack s ≡ done (leaves x) → Back s x
+
+-- ---- a run
+
+pub data Run (n : ℕ) (s : State) (x : Returned Report) : Type 0 where
+  unfit : fits (s .mem) ≡ false → reported x ≡ report (number wrongLength) 0 0 s → Run n s x
+  fit : fits (s .mem) ≡ true → Ends n s (reported x) → Run n s x
+
+-- ---- there and back again: address and memories as before
+
+pub record Home (s t : State) : Type 0 where
+  pub address : t .pc ≡ s .pc
+  pub memories : (k : Kind) → cells k (t .mem) ≡ cells k (s .mem)
+  pub used : t .mem .used ≡ s .mem .used
+
+abbrev pub RepliesHome : State → Returned Reply → Type 0
+RepliesHome s x = Home s (leaves x)

@@ -1,0 +1,69 @@
+// The demands, held by the calls themselves: each function is a call of bench, or a few in a row, and what it ensures is a demand.
+// Nothing is known here of a call but its contract, so one that says less breaks this crate.
+use bench::at::At;
+use bench::runs::Report;
+use bench::walk::Reply;
+ghost use Rattle.machine.specs.Meaning.{_&_, Image, Journal, Pad, Regs, Vram};
+ghost use Rattle.witness.specs.Demanded;
+ghost use Rattle.witness.specs.Demanded.{Meets, RepliesHome};
+
+// A step meets demand 1 or demand 2.
+pub fn step(
+    image: &[u8],
+    pad: &mut [u8],
+    vram: &mut [u8],
+    regs: &mut [u8],
+    journal: &mut [u32],
+    at: At,
+) -> Reply
+    ensures { λ r. ⌜ Meets Demanded.Step (Image image & Pad pad & Vram vram & Regs regs & Journal journal) at r ⌝ }
+{
+    bench::walk::step(image, pad, vram, regs, journal, at)
+}
+
+// A step back that is refused has its cause, and leaves all as it was.
+pub fn step_back(
+    pad: &mut [u8],
+    vram: &mut [u8],
+    regs: &mut [u8],
+    journal: &mut [u32],
+    at: At,
+) -> Reply
+    ensures { λ r. ⌜ Meets Demanded.Back (Pad pad & Vram vram & Regs regs & Journal journal) at r ⌝ }
+{
+    bench::walk::step_back(pad, vram, regs, journal, at)
+}
+
+// A run ends after n accepted steps, or at the first that is refused.
+pub fn run(
+    image: &[u8],
+    pad: &mut [u8],
+    vram: &mut [u8],
+    regs: &mut [u8],
+    journal: &mut [u32],
+    at: At,
+    n: u32,
+) -> Report
+    ensures { λ r. ⌜ Meets (Demanded.Run n) (Image image & Pad pad & Vram vram & Regs regs & Journal journal) at r ⌝ }
+{
+    bench::runs::run(image, pad, vram, regs, journal, at, n)
+}
+
+// A step and its step back: address and memories are as before, and so they are where the step is refused.
+pub fn there_and_back(
+    image: &[u8],
+    pad: &mut [u8],
+    vram: &mut [u8],
+    regs: &mut [u8],
+    journal: &mut [u32],
+    at: At,
+) -> Reply
+    ensures { λ r. ⌜ Meets RepliesHome (Image image & Pad pad & Vram vram & Regs regs & Journal journal) at r ⌝ }
+{
+    let r = bench::walk::step(image, pad, vram, regs, journal, at);
+    if r.answer != 0 {
+        return r;
+    }
+    let there = r.at;
+    bench::walk::step_back(pad, vram, regs, journal, there)
+}
