@@ -1,1 +1,2 @@
 mod Borne
+mod Unwound

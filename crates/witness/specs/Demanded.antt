@@ -2,15 +2,16 @@
 use mathlib.Core.Path.{_≡_}
 use mathlib.Core.Bool.{true, false}
 use Prim.Native.Nat.{ℕ}
+use lib.ListN.{length, take}
 use Rattle.rules.specs.Machine.{Kind, State, cells}
 use Rattle.rules.specs.Answers.{number, wrongLength}
 use Rattle.rules.specs.Calls.{fits, done, stepBack, report}
-use Rattle.rules.specs.Demands.{Demand1, BackCause, Demand2, Ends}
+use Rattle.rules.specs.Demands.{Good, Demand1, BackCause, Demand2, AllAccepted, forward, Ends}
 use Rattle.machine.specs.Meaning.{Parts, Rest, unseenAll, memAfter}
 use Rattle.bench.specs.declared.at.At.{At}
 use Rattle.bench.specs.declared.walk.Reply.{Reply}
 use Rattle.bench.specs.declared.runs.Report.{Report}
-use Rattle.bench.specs.Meaning.{Returned, returnedOf, lentTo, leaves, reported}
+use Rattle.bench.specs.Meaning.{Returned, returnedOf, standsAt, lentTo, leftBy, leaves, reported}
 
 -- whatever the rest of the machine is
 abbrev pub Meets : {A : Type 0} → (State → Returned A → Type 0) → (Parts → Parts) → At → A → Type 0
@@ -43,3 +44,26 @@ pub record Home (s t : State) : Type 0 where
 
 abbrev pub RepliesHome : State → Returned Reply → Type 0
 RepliesHome s x = Home s (leaves x)
+
+-- ---- the steps of a run taken back one by one
+
+-- the same machine, but for the journal above the used words
+pub record Alike (s t : State) : Type 0 where
+  pub home : Home t s
+  pub image : s .mem .image ≡ t .mem .image
+  pub room : length (s .mem .journal) ≡ length (t .mem .journal)
+  pub words : take (s .mem .used) (s .mem .journal) ≡ take (t .mem .used) (t .mem .journal)
+
+-- n steps from s₀ on, each accepted, have led to s
+pub record Behind (s₀ : State) (n : ℕ) (s : State) : Type 0 where
+  pub good : Good s₀
+  pub accepted : AllAccepted n s₀
+  pub alike : Alike s (forward n s₀)
+
+-- so many steps are taken back: wherever they began, that is where the machine is again
+abbrev pub TakenBack : ℕ → (Parts → Parts) → At → At → Type 0
+TakenBack n parts at r =
+    (rest : Rest (parts unseenAll)) (s₀ : State) → Behind s₀ n (lentTo (parts unseenAll) rest at) → Home s₀ (leftBy (parts unseenAll) rest r)
+
+abbrev pub StandsHome : State → Returned At → Type 0
+StandsHome s x = Home s (standsAt x (x .result))

@@ -5,7 +5,7 @@ use bench::runs::Report;
 use bench::walk::Reply;
 ghost use Rattle.machine.specs.Meaning.{_&_, Image, Journal, Pad, Regs, Vram};
 ghost use Rattle.witness.specs.Demanded;
-ghost use Rattle.witness.specs.Demanded.{Meets, RepliesHome};
+ghost use Rattle.witness.specs.Demanded.{Meets, RepliesHome, StandsHome, TakenBack};
 
 // A step meets demand 1 or demand 2.
 pub fn step(
@@ -66,4 +66,42 @@ pub fn there_and_back(
     }
     let there = r.at;
     bench::walk::step_back(pad, vram, regs, journal, there)
+}
+
+// So many steps taken back, one by one.
+pub fn take_back(
+    pad: &mut [u8],
+    vram: &mut [u8],
+    regs: &mut [u8],
+    journal: &mut [u32],
+    at: At,
+    n: u32,
+) -> At
+    ensures { λ r. ⌜ TakenBack n (Pad pad & Vram vram & Regs regs & Journal journal) at r ⌝ }
+{
+    let mut here = at;
+    let mut left = n;
+    while 0 < left {
+        let b = bench::walk::step_back(pad, vram, regs, journal, here);
+        here = b.at;
+        left = left - 1;
+    }
+    here
+}
+
+// A run, and as many steps back as it made steps: address and memories are as before.
+pub fn run_and_back(
+    image: &[u8],
+    pad: &mut [u8],
+    vram: &mut [u8],
+    regs: &mut [u8],
+    journal: &mut [u32],
+    at: At,
+    n: u32,
+) -> At
+    ensures { λ r. ⌜ Meets StandsHome (Image image & Pad pad & Vram vram & Regs regs & Journal journal) at r ⌝ }
+{
+    let r = bench::runs::run(image, pad, vram, regs, journal, at, n);
+    let there = r.at;
+    take_back(pad, vram, regs, journal, there, r.steps)
 }
