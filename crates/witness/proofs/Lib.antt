@@ -1,2 +1,3 @@
 mod Borne
 mod Unwound
+mod Heard

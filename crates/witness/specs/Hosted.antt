@@ -1,0 +1,38 @@
+-- What a host in C reads off the answer and `out`, as a reply or a report of bench.
+use mathlib.Core.List.{List}
+use Prim.Native.Nat.{ℕ}
+use lib.ListN.{getD}
+use denote.Ref.{now}
+use Rattle.rules.specs.Machine.{State}
+use Rattle.machine.specs.Meaning.{Lent, Parts, Rest, unseenAll, memAfter}
+use Rattle.bench.specs.declared.at.At.{At}
+use Rattle.bench.specs.declared.walk.Reply.{Reply}
+use Rattle.bench.specs.declared.runs.Report.{Report}
+use Rattle.bench.specs.Meaning.{Returned, returned, returnedOf, lentTo}
+use Rattle.export.specs.Meaning.{Numbers}
+
+-- the same parts beside another result
+abbrev pub beside : {A B : Type 0} → (A → B) → Returned A → Returned B
+beside f x = returned (x .image) (x .pad) (x .vram) (x .regs) (x .journal) (f (x .result))
+
+-- "pc, used words, steps and stores"
+abbrev pub atOf : Numbers → At
+atOf n = record { pc = getD (n .out) 0 0; used = getD (n .out) 1 0 }
+
+abbrev pub asReply : Returned Numbers → Returned Reply
+asReply = beside (λ n. record { answer = n .answer; stores = getD (n .out) 3 0; at = atOf n })
+
+abbrev pub asReport : Returned Numbers → Returned Report
+asReport = beside (λ n. record { answer = n .answer; steps = getD (n .out) 2 0; stores = getD (n .out) 3 0; at = atOf n })
+
+-- what a call was lent, and what it hands back, whatever the rest of the machine is
+abbrev pub HandsBack : (State → Returned Numbers → Type 0) → (Parts → Parts) → ℕ → ℕ → ℕ → Lent → Type 0
+HandsBack D parts pc used answer out =
+    (rest : Rest (parts unseenAll)) → D (lentTo (parts unseenAll) rest (record { pc = pc; used = used }))
+    (returnedOf (memAfter (parts unseenAll) rest used) (record { answer = answer; out = now (out .exit) }))
+
+abbrev pub RepliesIn : (State → Returned Reply → Type 0) → (Parts → Parts) → ℕ → ℕ → ℕ → Lent → Type 0
+RepliesIn D = HandsBack (λ s x. D s (asReply x))
+
+abbrev pub ReportsIn : (State → Returned Report → Type 0) → (Parts → Parts) → ℕ → ℕ → ℕ → Lent → Type 0
+ReportsIn D = HandsBack (λ s x. D s (asReport x))

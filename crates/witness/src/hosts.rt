@@ -1,0 +1,52 @@
+// The same for a host in C: what its calls hand back meets the demands that the calls of bench meet.
+ghost use Rattle.machine.specs.Meaning.{_&_, Image, Journal, Pad, Regs, Vram};
+ghost use Rattle.witness.specs.Demanded.{Step, Back, Run};
+ghost use Rattle.witness.specs.Hosted.{RepliesIn, ReportsIn};
+
+// A step meets demand 1 or demand 2.
+pub fn step(
+    image: &[u8],
+    pad: &mut [u8],
+    vdp: &mut [u8],
+    reg: &mut [u8],
+    journal: &mut [u32],
+    pc: u16,
+    used: usize,
+    out: &mut [u64; 4],
+) -> u8
+    ensures { λ r. ⌜ RepliesIn Step (Image image & Pad pad & Vram vdp & Regs reg & Journal journal) pc used r out ⌝ }
+{
+    export::argolythe_step(image, pad, vdp, reg, journal, pc, used, out)
+}
+
+// A step back that is refused has its cause, and leaves all as it was.
+pub fn step_back(
+    pad: &mut [u8],
+    vdp: &mut [u8],
+    reg: &mut [u8],
+    journal: &mut [u32],
+    pc: u16,
+    used: usize,
+    out: &mut [u64; 4],
+) -> u8
+    ensures { λ r. ⌜ RepliesIn Back (Pad pad & Vram vdp & Regs reg & Journal journal) pc used r out ⌝ }
+{
+    export::argolythe_step_back(pad, vdp, reg, journal, pc, used, out)
+}
+
+// A run ends after n accepted steps, or at the first that is refused.
+pub fn run(
+    image: &[u8],
+    pad: &mut [u8],
+    vdp: &mut [u8],
+    reg: &mut [u8],
+    journal: &mut [u32],
+    pc: u16,
+    used: usize,
+    n: u32,
+    out: &mut [u64; 4],
+) -> u8
+    ensures { λ r. ⌜ ReportsIn (Run n) (Image image & Pad pad & Vram vdp & Regs reg & Journal journal) pc used r out ⌝ }
+{
+    export::argolythe_run(image, pad, vdp, reg, journal, pc, used, n, out)
+}
