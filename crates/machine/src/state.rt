@@ -6,13 +6,13 @@ ghost use Rattle.rules.specs.Rules;
 ghost use Rattle.rules.specs.Rules.{give, goto};
 ghost use Rattle.machine.specs.Meaning.{Does, Gives, Nothing, began, refusedBy, readBy, laidBy};
 
-// pc, the used words, the answer so far, and the byte or the word that was read last.
+// The used words, pc, the word or the byte that was read last, and the answer so far: the widest first, so that it takes 16 bytes.
 pub struct Now {
-    pub pc: u16,
     pub used: usize,
-    pub answer: u8,
-    pub byte: u8,
+    pub pc: u16,
     pub word: u16,
+    pub byte: u8,
+    pub answer: u8,
 }
 
 // The state in which a step begins.
