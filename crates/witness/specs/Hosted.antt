@@ -15,7 +15,7 @@ use Rattle.export.specs.Meaning.{Numbers}
 abbrev pub beside : {A B : Type 0} → (A → B) → Returned A → Returned B
 beside f x = returned (x .image) (x .pad) (x .vram) (x .regs) (x .journal) (f (x .result))
 
--- "pc, used words, steps and stores"
+-- `out` has pc, used words, steps and stores, in this order
 abbrev pub atOf : Numbers → At
 atOf n = record { pc = getD (n .out) 0 0; used = getD (n .out) 1 0 }
 
