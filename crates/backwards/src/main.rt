@@ -1,4 +1,4 @@
-// A walk backwards: a cartridge runs into an instruction that fails, and is then stepped back to its start, with pc and a viewed cell at each step.
+// Walks backwards: a cartridge runs into an instruction that fails, and is then stepped back to its start, with pc and viewed cells at each step.
 use bench::at::At;
 use bench::viewer::Memory;
 use lines::parts::Part;
@@ -24,21 +24,54 @@ const CODE: [u8; 16] = [
     0x00,
 ];
 
+// FMT writes three characters; MOVE brings three others, from >0020, over them; ST to pad >E0, out of reach.
+const SCREEN: [u8; 17] = [
+    0x08,
+    0x02,
+    0x41,
+    0x42,
+    0x43,
+    0xFB,
+    0x31,
+    0x00,
+    0x03,
+    0xA0,
+    0x00,
+    0x00,
+    0x20,
+    0xBC,
+    0x80,
+    0xE0,
+    0x00,
+];
+
 fn show_answer(answer: u8, steps: u32, stores: u64) {
     let mut out = [0u8; 70];
     let count = print::put_answer(&mut out, 0, answer, steps, stores);
     desk::show::write_text(&out, count);
 }
 
-// pc, and pad >00 as the viewer shows it.
-fn show_place<'a>(pad: &'a [u8; 256], vram: &'a [u8; 16384], pc: u16) {
+// A cell as it is printed.
+fn show_cell(part: Part, at: u16, byte: u8) {
     let mut out = [0u8; 13];
+    let count = print::put_cell(&mut out, 0, part, at, byte);
+    desk::show::write_text(&out, count);
+}
+
+// pc, and pad >00 and the first three screen bytes as the viewer shows them.
+fn show_place<'a>(pad: &'a [u8; 256], vram: &'a [u8; 16384], pc: u16) {
+    let mut out = [0u8; 8];
     let count = print::put_pc(&mut out, 0, pc);
     desk::show::write_text(&out, count);
     let cell = bench::viewer::view(pad, vram, Memory::Cpu, 0, 1);
     if cell.len() == 1 {
-        let more = print::put_cell(&mut out, 0, Part::Pad, 0, cell[0]);
-        desk::show::write_text(&out, more);
+        show_cell(Part::Pad, 0, cell[0]);
+    }
+    let screen = bench::viewer::view(pad, vram, Memory::Vdp, 0, 3);
+    if screen.len() == 3 {
+        show_cell(Part::Vdp, 0, screen[0]);
+        show_cell(Part::Vdp, 1, screen[1]);
+        show_cell(Part::Vdp, 2, screen[2]);
     }
 }
 
@@ -63,17 +96,16 @@ fn walk_back(
     show_answer(last.answer, 0, last.stores);
 }
 
-fn main() {
-    let mut image = [0u8; 8192];
+// A run from 0 to the instruction that fails, and the walk back.
+fn walk(image: &[u8; 8192]) {
     let mut pad = [0u8; 256];
     let mut vram = [0u8; 16384];
     let mut regs = [0u8; 8];
     let mut journal = [0u32; 64];
-    bytes::copy(&CODE, &mut image);
     pad[0x73] = 0x7E;
     let start = At { pc: 0, used: 0 };
     let r = bench::runs::run(
-        &image,
+        image,
         &mut pad,
         &mut vram,
         &mut regs,
@@ -85,4 +117,15 @@ fn main() {
     show_answer(r.answer, r.steps, r.stores);
     show_place(&pad, &vram, at.pc);
     walk_back(&mut pad, &mut vram, &mut regs, &mut journal, at, r.steps);
+}
+
+fn main() {
+    let mut image = [0u8; 8192];
+    bytes::copy(&CODE, &mut image);
+    walk(&image);
+    bytes::copy(&SCREEN, &mut image);
+    image[0x20] = 0x58;
+    image[0x21] = 0x59;
+    image[0x22] = 0x5A;
+    walk(&image);
 }

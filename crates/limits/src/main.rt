@@ -1,7 +1,6 @@
 // What the program can't show: an image of one group, parts of a wrong length, a journal with no room, and no step to take back.
 use bench::at::At;
 use bench::runs::Report;
-use lines::print;
 ghost use Prim.Native.Nat.{_≤_};
 ghost use lib.ListN.{length};
 
@@ -40,21 +39,25 @@ fn try_step(what: &[u8], image: &[u8], journal: &mut [u32], used: usize) {
     show_run(what, r, &pad, &vram, &regs);
 }
 
-fn try_step_back(what: &[u8]) {
+// One step back of such a machine, over a journal of two words.
+fn try_step_back(what: &[u8], low: u32, high: u32, used: usize) {
     let mut pad = [0u8; 256];
     let mut vram = [0u8; 16384];
     let mut regs = [0u8; 8];
-    let mut journal = [0u32; 8];
-    let mut out = [0u8; 78];
-    let at = At {
-        pc: 0x1234,
-        used: 0,
+    let mut journal = [0u32; 2];
+    pad[0x73] = 0x7E;
+    journal[0] = low;
+    journal[1] = high;
+    let at = At { pc: 0x1234, used };
+    let b = bench::walk::step_back(&mut pad, &mut vram, &mut regs, &mut journal, at);
+    let there = b.at;
+    let r = Report {
+        answer: b.answer,
+        steps: 0,
+        stores: b.stores,
+        at: there,
     };
-    let r = bench::walk::step_back(&mut pad, &mut vram, &mut regs, &mut journal, at);
-    let a = print::put_answer(&mut out, 0, r.answer, 0, r.stores);
-    let count = print::put_pc(&mut out, a, r.at.pc);
-    io::write_all(1, what);
-    desk::show::write_text(&out, count);
+    show_run(what, r, &pad, &vram, &regs);
 }
 
 fn main() {
@@ -84,5 +87,15 @@ fn main() {
     );
     try_step(b"used exceeds the journal\n", &image, &mut word, 2);
     try_step(b"a journal of one word\n", &image, &mut word, 0);
-    try_step_back(b"no step to take back\n");
+    try_step_back(b"no step to take back\n", 0, 0, 0);
+    let mark: u32 = 0xC000_0042;
+    try_step_back(b"a mark, and pad >00 had >55\n", mark, 0x0000_0055, 2);
+    try_step_back(b"a mark, and VDP >3FFF had >55\n", mark, 0x403F_FF55, 2);
+    try_step_back(b"a mark, and register 7 had >55\n", mark, 0x8000_0755, 2);
+    try_step_back(b"no mark below\n", 0x0000_0055, 0x0000_0155, 2);
+    try_step_back(b"a mark with a surplus bit\n", 0xC001_0042, 0x0000_0055, 2);
+    try_step_back(b"pad >E0\n", mark, 0x0000_E055, 2);
+    try_step_back(b"VDP >4000\n", mark, 0x4040_0055, 2);
+    try_step_back(b"register 8\n", mark, 0x8000_0855, 2);
+    try_step_back(b"more used than there are\n", mark, 0x0000_0055, 3);
 }
