@@ -1,15 +1,16 @@
 -- What a host in C reads off the answer and `out`, as a reply or a report of bench.
-use mathlib.Core.List.{List}
+use mathlib.Core.Path.{_≡_}
 use Prim.Native.Nat.{ℕ}
 use lib.ListN.{getD}
-use denote.Ref.{now}
+use denote.Ref.{RefT, now}
+use denote.Triple.Both.{Both}
 use Rattle.rules.specs.Machine.{State}
 use Rattle.machine.specs.Meaning.{Lent, Parts, Rest, unseenAll, memAfter}
 use Rattle.bench.specs.declared.at.At.{At}
 use Rattle.bench.specs.declared.walk.Reply.{Reply}
 use Rattle.bench.specs.declared.runs.Report.{Report}
 use Rattle.bench.specs.Meaning.{Returned, returned, returnedOf, lentTo}
-use Rattle.export.specs.Meaning.{Numbers}
+use Rattle.export.specs.Meaning.{Numbers, bytesOf, shown, named}
 
 -- the same parts beside another result
 abbrev pub beside : {A B : Type 0} → (A → B) → Returned A → Returned B
@@ -36,3 +37,7 @@ RepliesIn D = HandsBack (λ s x. D s (asReply x))
 
 abbrev pub ReportsIn : (State → Returned Report → Type 0) → (Parts → Parts) → ℕ → ℕ → ℕ → Lent → Type 0
 ReportsIn D = HandsBack (λ s x. D s (asReport x))
+
+-- the bytes that an offset and a length name are those that the rules show
+abbrev pub Views : ℕ → Lent → Lent → ℕ → ℕ → Both (RefT ℕ) (RefT ℕ) → ℕ → Type 0
+Views m p v at len o n = named (now (o .exit)) n (bytesOf m (now (p .entry)) (now (v .entry))) ≡ shown m (now (p .entry)) (now (v .entry)) at len

@@ -1,7 +1,7 @@
 // The same for a host in C: what its calls hand back meets the demands that the calls of bench meet.
 ghost use Rattle.machine.specs.Meaning.{_&_, Image, Journal, Pad, Regs, Vram};
 ghost use Rattle.witness.specs.Demanded.{Step, Back, Run};
-ghost use Rattle.witness.specs.Hosted.{RepliesIn, ReportsIn};
+ghost use Rattle.witness.specs.Hosted.{RepliesIn, ReportsIn, Views};
 
 // A step meets demand 1 or demand 2.
 pub fn step(
@@ -49,4 +49,18 @@ pub fn run(
     ensures { λ r. ⌜ ReportsIn (Run n) (Image image & Pad pad & Vram vdp & Regs reg & Journal journal) pc used r out ⌝ }
 {
     export::argolythe_run(image, pad, vdp, reg, journal, pc, used, n, out)
+}
+
+// What is named by the offset and the length are the bytes that the rules show.
+pub fn view<'a>(
+    pad: &'a [u8],
+    vdp: &'a [u8],
+    memory: u8,
+    at: usize,
+    len: usize,
+    offset: &mut usize,
+) -> usize
+    ensures { λ r. ⌜ Views memory pad vdp at len offset r ⌝ }
+{
+    export::argolythe_view(pad, vdp, memory, at, len, offset)
 }
