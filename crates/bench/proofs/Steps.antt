@@ -11,7 +11,7 @@ use mir.Syntax.{w8}
 use mir.Val.{Fits}
 use borrow.Author.Tests.{ne-eqb}
 use Rattle.rules.specs.Machine.{pick, cpu, vdp, register, Mem, mem, State, state, beside, onward}
-use Rattle.rules.specs.Answers.{number, offGrom}
+use Rattle.rules.specs.Answers.{Why, number, offGrom}
 use Rattle.rules.specs.Journal.{markWord, Store, undo, blanked}
 use Rattle.rules.specs.Rules.{Rule, Out, got, stopped, then, after, valued, next, nextByte, perform, exec}
 use Rattle.rules.specs.Opcodes.{Task, Class, stops, does, classOf}
@@ -25,7 +25,6 @@ use Rattle.rules.proofs.Opcodes.{never-done}
 use Rattle.machine.specs.declared.state.Now.{Now}
 use Rattle.machine.specs.Meaning.{outs, Stand, stand, standing, outOf, Goes, began}
 use Rattle.machine.proofs.Chain as chain
-use Rattle.opcode.specs.Meaning.{halts, tasks, said}
 use Rattle.bench.specs.declared.at.At.{At}
 use Rattle.bench.specs.declared.walk.Reply as walk
 use Rattle.bench.specs.Meaning.{stateAt, Returned, returned, outcome, replies, told, refusal, settled, beginning, settling, stepping, Tells, Tries}
@@ -106,28 +105,6 @@ task-undone {i} {p} {v} {g} {j} {p₃ = p₃} {v₃ = v₃} {g₃ = g₃} {j₃ 
           ∙ ap (λ (o : Out (Unit {0})). settled s o ss) (rw (ne-eqb a 0 f) at (h .is)));
     }
 
--- ---- an opcode's class, by what the code has of it
-
-stopped-class : (k : Class) (n : ℕ) → halts n ≡ said k → (pc pc₁ : ℕ) (m : Mem) → begin pc k pc₁ m ≡ stopped n m
-unfolding begin
-stopped-class (stops why) n e pc pc₁ m =
-    let q : number why ≡ n = cc in
-    ap (λ (x : ℕ). stopped x m) q
-stopped-class (does t) n e pc pc₁ m = absurd (let z : _≡_ {A = ℕ} 0 1 = cc in omega arith)
-
--- its answer is not 0
-halts-not-0 : (k : Class) (n : ℕ) → halts n ≡ said k → n ≡ 0 → ⊥
-halts-not-0 (stops why) n e z =
-    let q : number why ≡ n = cc in
-    omega (arith, never-done why)
-halts-not-0 (does t) n e z = let q : _≡_ {A = ℕ} 0 1 = cc in omega arith
-
-does-class : (k : Class) (t : Task) → tasks t ≡ said k → k ≡ does t
-does-class (stops why) t e = absurd (let z : _≡_ {A = ℕ} 0 1 = cc in omega arith)
-does-class (does u) t e =
-    let q : u ≡ t = cc in
-    ap does q
-
 -- ---- the opcode read
 
 -- of a machine that has begun, by where it has
@@ -181,9 +158,8 @@ module _ {b a pc₁ : ℕ} {s : State} {m : Mem} (g : Goes (stand 0 (s .pc) (s .
   stores-are z = rw (read z)
 
   -- a task
-  pub step-does : {t : Task} {x : Returned walk.Reply} → a ≡ 0 → tasks t ≡ said (classOf b) → Tells told (beginning t pc₁) s x → Tells told settling s x
-  step-does {t} z k e =
-      let c : does t ≡ classOf b = sym (does-class (classOf b) t k) in
+  pub step-does : {t : Task} {x : Returned walk.Reply} → a ≡ 0 → does t ≡ classOf b → Tells told (beginning t pc₁) s x → Tells told settling s x
+  step-does z c e =
       record {
         is = e .is ∙ ap₂ (settled s) (ap (λ (x : Class). begin (s .pc) x pc₁ (s .mem)) c ∙ sym (attempt-is z))
             (ap (λ (x : Class). beginStores (s .pc) x pc₁ (s .mem)) c ∙ sym (stores-are z));
@@ -201,8 +177,9 @@ module _ {i p v g j : List ℕ} {at : At} {b a pc₁ : ℕ} {m : Mem} (h : Goes 
   step-beyond f = untouched f (attempt-missed h f)
 
   -- 1, 2 and 3
-  pub step-halted : {n : ℕ} → a ≡ 0 → halts n ≡ said (classOf b) → Tells told settling (stateAt i p v g j at) (returned i p v g j (refusal n at))
-  step-halted {n} z k = untouched (halts-not-0 (classOf b) n k) (attempt-is h z ∙ stopped-class (classOf b) n k (at .pc) pc₁ (mem i p v g j (at .used)))
+  pub step-halted : {why : Why} → a ≡ 0 → stops why ≡ classOf b → Tells told settling (stateAt i p v g j at) (returned i p v g j (refusal (number why) at))
+  unfolding begin
+  step-halted {why} z c = untouched (λ e. omega (arith, never-done why)) (attempt-is h z ∙ rw (sym c))
 
 -- ---- the call
 

@@ -3,6 +3,7 @@ use crate::at::At;
 use crate::fits;
 use crate::walk;
 use machine::answers;
+use machine::answers::Why;
 ghost use Rattle.rules.specs.Calls;
 ghost use Rattle.rules.specs.Calls.{steps};
 ghost use Rattle.machine.specs.Meaning.{_&_, Image, Journal, Pad, Regs, Vram};
@@ -76,7 +77,7 @@ pub fn run(
     );
     if !fit {
         return Report {
-            answer: answers::WRONG_LENGTH,
+            answer: answers::number(Why::WrongLength),
             steps: 0,
             stores: 0,
             at,

@@ -3,6 +3,7 @@ use crate::at;
 use crate::at::At;
 use crate::fits;
 use machine::answers;
+use machine::answers::Why;
 use machine::state::Now;
 use opcode::class::Class;
 use opcode::class::Task;
@@ -95,7 +96,7 @@ pub(crate) fn fit_step(
     }
     let class = opcode::class::class_of(op.byte);
     match class {
-        Class::Stops(n) => refused(n, at),
+        Class::Stops(why) => refused(answers::number(why), at),
         Class::Does(task) => do_task(image, pad, vram, regs, journal, at, op.pc, task),
     }
 }
@@ -119,7 +120,7 @@ pub fn step(
         at.used,
     );
     if !fit {
-        return refused(answers::WRONG_LENGTH, at);
+        return refused(answers::number(Why::WrongLength), at);
     }
     fit_step(image, pad, vram, regs, journal, at)
 }
@@ -134,7 +135,7 @@ fn fit_back(pad: &mut [u8], vram: &mut [u8], regs: &mut [u8], journal: &mut [u32
     let found = machine::journal::find(journal, at.used);
     let words = found.words;
     if words == 0 {
-        return refused(answers::NO_RECORD, at);
+        return refused(answers::number(Why::NoRecord), at);
     }
     let left = machine::journal::undo(pad, vram, regs, journal, at.used, words);
     let back = At {
@@ -159,7 +160,7 @@ pub fn step_back(
 {
     let fit = fits::parts_fit(pad.len(), vram.len(), regs.len(), journal.len(), at.used);
     if !fit {
-        return refused(answers::WRONG_LENGTH, at);
+        return refused(answers::number(Why::WrongLength), at);
     }
     fit_back(pad, vram, regs, journal, at)
 }

@@ -1,5 +1,5 @@
 // PUSH, CASE and FETCH: those of one operand that go to a stack or to pc.
-use machine::answers;
+use machine::answers::Why;
 use machine::cells;
 use machine::state::Now;
 use operand::stacks;
@@ -27,7 +27,7 @@ pub fn push(
     let v = operand::values::operand_value(image, pad, vram, journal, m, wide);
     let p = machine::pad::peek_pad(pad, v, cells::DATA_POINTER);
     let up = p.byte as u16 + 1;
-    let sound = machine::state::need(p, operand::decode::on_data_stack(up), answers::OFF_STACK);
+    let sound = machine::state::need(p, operand::decode::on_data_stack(up), Why::OffStack);
     let b = (up % 256) as u8;
     let raised = machine::pad::poke_pad(pad, journal, sound, cells::DATA_POINTER, b);
     let at = up as usize;

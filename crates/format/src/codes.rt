@@ -1,7 +1,7 @@
 // The codes of a format string: one function for each kind, one that picks among them, and the loop.
 use crate::cursor;
 use crate::text;
-use machine::answers;
+use machine::answers::Why;
 use machine::cells;
 use machine::state::Now;
 ghost use mathlib.Core.Path.{_≡_};
@@ -314,5 +314,5 @@ pub fn format(image: &[u8], pad: &mut [u8], vram: &mut [u8], journal: &mut [u32]
         blocks = t.blocks;
         left -= 1;
     }
-    machine::state::need(x, false, answers::TOO_LONG)
+    machine::state::need(x, false, Why::TooLong)
 }

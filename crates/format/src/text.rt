@@ -1,6 +1,6 @@
 // Text: characters from GROM, one character repeated, characters from the pad. Each is shown with the bias added.
 use crate::cursor;
-use machine::answers;
+use machine::answers::Why;
 use machine::state::Now;
 use operand::places::Place;
 ghost use mathlib.Core.Path.{_≡_};
@@ -126,7 +126,7 @@ pub fn cpu_operand(image: &[u8], pad: &mut [u8], journal: &mut [u32], m: Now) ->
     let o = operand::decode::operand(image, pad, journal, m, 1);
     let at = operand::places::now_of(o);
     let place = operand::places::place_of(o);
-    let sound = machine::state::need(at, is_cpu(place), answers::OFF_CPU);
+    let sound = machine::state::need(at, is_cpu(place), Why::OffCpu);
     machine::state::give_word(sound, offset_of(place))
 }
 

@@ -44,9 +44,9 @@ told text (Pc n) = rules.jumps n
 told text (Run n) = rules.runs n
 told text Bad = rules.bad
 
--- the digits stand within the text, and the bytes within the part
+-- the digits are the end of the text, and the bytes stand within the part
 pub record Within (size : ℕ) (text : List ℕ) (b : Bytes) : Type 0 where
-  pub digits : b .from + 2 * b .count ≤ length text
+  pub digits : b .from + 2 * b .count ≡ length text
   pub bytes : b .at + b .count ≤ size
   pub some : 1 ≤ b .count
 

@@ -54,15 +54,14 @@ refusal why pc m = rw (ne-eqb (number why) 0 (λ e. omega (arith, never-done why
 pub need-holds : {s : Stand} {c : Bool} (why : Why) → c ≡ true → Goes s (need c why) tt s
 need-holds {c = c} why h = by-rule (need-met c why h) idle
 
-pub need-fails : {n pc z : ℕ} {m : Mem} {c : Bool} (why : Why) → z ≡ 0 → number why ≡ n → c ≡ false
-    → Goes (stand z pc m) (need c why) tt (stand n pc m)
+pub need-fails : {pc z : ℕ} {m : Mem} {c : Bool} (why : Why) → z ≡ 0 → c ≡ false → Goes (stand z pc m) (need c why) tt (stand (number why) pc m)
 unfolding outs after exec need
-need-fails {pc = pc} {m = m} why h e f = goes (ap (λ (x : ℕ). outs x pc m) (sym e) ∙ refusal why pc m ∙ rw (h, f))
+need-fails {pc = pc} {m = m} why h f = goes (refusal why pc m ∙ rw (h, f))
 
 -- then nothing more is done, and pc plays no part
-pub refuses : {A : Type 0} {n pc pc₁ z : ℕ} {m : Mem} {c : Bool} {v : A} (why : Why) (r : Rule A) → z ≡ 0 → n ≡ number why → c ≡ false
-    → Goes (stand z pc m) (need c why >>= (λ _. r)) v (stand n pc₁ m)
-refuses {n = n} {pc = pc} why r h e f = seq (need-fails {pc = pc} why h (sym e) f) (stays (λ x. omega (arith, never-done why)))
+pub refuses : {A : Type 0} {pc pc₁ z : ℕ} {m : Mem} {c : Bool} {v : A} {why why₁ : Why} (r : Rule A) → z ≡ 0 → why₁ ≡ why → c ≡ false
+    → Goes (stand z pc m) (need c why >>= (λ _. r)) v (stand (number why₁) pc₁ m)
+refuses {pc = pc} {why = why} r h e f = rw e (seq (need-fails {pc = pc} why h f) (stays (λ x. omega (arith, never-done why))))
 
 -- ---- reading the image
 
@@ -111,11 +110,11 @@ kind-small register = lit< tt
 
 -- of any machine, q being how many cells are in reach
 module _ (k : Kind) {a q pc z : ℕ} {m : Mem} (h : z ≡ 0) (r : q ≡ reach k) where
-  pub peek-far : {n v : ℕ} → q ≤ a → n ≡ number (outside k) → Goes (stand z pc m) (peek k a) v (stand n pc m)
+  pub peek-far : {why : Why} {v : ℕ} → q ≤ a → why ≡ outside k → Goes (stand z pc m) (peek k a) v (stand (number why) pc m)
   unfolding outs after valued exec perform
   peek-far {v = v} l e = record { is = rw e (ap (valued v) (refusal (outside k) pc m) ∙ rw (h, le-ltb a (reach k) (omega arith))) }
 
-  pub poke-far : {n b : ℕ} → q ≤ a → n ≡ number (outside k) → Goes (stand z pc m) (poke k a b) tt (stand n pc m)
+  pub poke-far : {why : Why} {b : ℕ} → q ≤ a → why ≡ outside k → Goes (stand z pc m) (poke k a b) tt (stand (number why) pc m)
   unfolding outs after exec perform
   poke-far l e = goes (rw e (refusal (outside k) pc m ∙ rw (h, le-ltb a (reach k) (omega arith))))
 

@@ -8,11 +8,31 @@ use denote.Ref.{RefT, now}
 use denote.Triple.Both.{Both}
 use Rattle.rules.specs.Machine.{pick, Kind, cpu, vdp, register, upon, size, Mem, mem, beside}
 use Rattle.rules.specs.Rules.{Rule, Deed, Out, got, stopped, then, after, valued, peek, poke}
+use Rattle.rules.specs.Answers as answers
 use Rattle.rules.specs.Calls as calls
 use Rattle.machine.specs.declared.state.Now.{Now}
+use Rattle.machine.specs.declared.answers.Why.{Why}
+use Rattle.machine.specs.declared.answers.Why.the-variants.{Ended, NoSuch, NeedsHost, OffCpu, OffVdp, OffGrom, OffStack, TooLong, OffScreen, NoRoom, WrongLength, NoRecord, OffRegister}
 use Rattle.machine.specs.declared.journal.Mark.{Mark}
 use Rattle.machine.specs.declared.memory.Memory.{Memory}
 use Rattle.machine.specs.declared.memory.Memory.the-variants.{Cpu, Vdp, Register}
+
+-- ---- the refusals
+
+abbrev pub whyOf : Why → answers.Why
+whyOf Ended = answers.ended
+whyOf NoSuch = answers.noSuch
+whyOf NeedsHost = answers.needsHost
+whyOf OffCpu = answers.offCpu
+whyOf OffVdp = answers.offVdp
+whyOf OffGrom = answers.offGrom
+whyOf OffStack = answers.offStack
+whyOf TooLong = answers.tooLong
+whyOf OffScreen = answers.offScreen
+whyOf NoRoom = answers.noRoom
+whyOf WrongLength = answers.wrongLength
+whyOf NoRecord = answers.noRecord
+whyOf OffRegister = answers.offRegister
 
 -- ---- the state, with the memories beside it, as a machine of the rules
 
@@ -225,6 +245,6 @@ foundAt n pc = pick (eqb n 0) calls.lost (calls.found n pc)
 abbrev pub found : Mark → calls.Find
 found r = foundAt (r .words) (r .pc)
 
--- it is found among the used words of a journal
+-- it is found among the used words of a journal, or its address is 0
 abbrev pub Finds : Lent → ℕ → Mark → Type 0
-Finds j u r = found r ≡ calls.scan u (now (j .entry))
+Finds j u r = (found r ≡ calls.scan u (now (j .entry))) × (r .words ≡ 0 → r .pc ≡ 0)

@@ -1,5 +1,5 @@
 // Reading the image: at pc, which moves on, and at an address.
-use crate::answers;
+use crate::answers::Why;
 use crate::state;
 use crate::state::Now;
 ghost use Rattle.rules.specs.Rules.{nextByte, nextWord, gromByte};
@@ -14,7 +14,7 @@ pub fn next_byte(image: &[u8], m: Now) -> Now
         return m;
     }
     if image.len() <= at {
-        return state::refused(m, answers::OFF_GROM);
+        return state::refused(m, Why::OffGrom);
     }
     state::read(m, number::addresses::onward(pc), image[at])
 }
@@ -27,7 +27,7 @@ pub fn grom_byte(image: &[u8], m: Now, a: u16) -> Now
         return m;
     }
     if image.len() <= at {
-        return state::refused(m, answers::OFF_GROM);
+        return state::refused(m, Why::OffGrom);
     }
     state::read(m, m.pc, image[at])
 }

@@ -1,5 +1,5 @@
 // The journal: a mark taken, words put back from the top, and the newest mark found.
-use crate::answers;
+use crate::answers::Why;
 use crate::cells;
 use crate::state;
 use crate::state::Now;
@@ -19,7 +19,7 @@ pub fn take_mark(journal: &mut [u32], m: Now, pc: u16) -> Now
         return m;
     }
     if journal.len() <= used {
-        return state::refused(m, answers::NO_ROOM);
+        return state::refused(m, Why::NoRoom);
     }
     journal[used] = number::words::mark_of(pc);
     state::laid(m)

@@ -1,14 +1,13 @@
 // A load and a journalled store, of whichever memory: the pad, VDP RAM or the registers.
-use crate::answers;
+use crate::answers::Why;
 use crate::cells;
 use crate::state;
 use crate::state::Now;
 ghost use mathlib.Core.Path.{_≡_};
 ghost use Rattle.rules.specs.Machine;
 ghost use Rattle.rules.specs.Answers;
-ghost use Rattle.rules.specs.Answers.{number};
 ghost use Rattle.rules.specs.Journal.{kindNumber};
-ghost use Rattle.machine.specs.Meaning.{kindOf, IsOf, Loads, Stores};
+ghost use Rattle.machine.specs.Meaning.{whyOf, kindOf, IsOf, Loads, Stores};
 
 pub enum Memory {
     Cpu,
@@ -28,13 +27,13 @@ fn reach(k: Memory) -> usize
 }
 
 // The refusal of an address that names none.
-fn outside(k: Memory) -> u8
-    ensures { λ r. ⌜ r ≡ number (Answers.outside (kindOf k)) ⌝ }
+fn outside(k: Memory) -> Why
+    ensures { λ r. ⌜ whyOf r ≡ Answers.outside (kindOf k) ⌝ }
 {
     match k {
-        Memory::Cpu => answers::OFF_CPU,
-        Memory::Vdp => answers::OFF_VDP,
-        Memory::Register => answers::OFF_REGISTER,
+        Memory::Cpu => Why::OffCpu,
+        Memory::Vdp => Why::OffVdp,
+        Memory::Register => Why::OffRegister,
     }
 }
 
@@ -77,7 +76,7 @@ pub fn store(memory: &mut [u8], journal: &mut [u32], m: Now, k: Memory, at: usiz
         return state::refused(m, why);
     }
     if journal.len() <= used {
-        return state::refused(m, answers::NO_ROOM);
+        return state::refused(m, Why::NoRoom);
     }
     let old = memory[at];
     let a = at as u32;

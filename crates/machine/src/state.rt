@@ -1,10 +1,12 @@
 // The state, and the few functions that make one; a value given, a jump and a need.
+use crate::answers;
+use crate::answers::Why;
 ghost use mathlib.Core.Path.{_≡_};
 ghost use Prim.Native.Nat.{_+_, _<_, _^_};
-ghost use Rattle.rules.specs.Answers.{Why, number};
+ghost use Rattle.rules.specs.Answers.{number};
 ghost use Rattle.rules.specs.Rules;
 ghost use Rattle.rules.specs.Rules.{give, goto};
-ghost use Rattle.machine.specs.Meaning.{Does, Gives, Nothing, began, refusedBy, readBy, laidBy};
+ghost use Rattle.machine.specs.Meaning.{Does, Gives, Nothing, whyOf, began, refusedBy, readBy, laidBy};
 
 // The used words, pc, the word or the byte that was read last, and the answer so far: the widest first, so that it takes 16 bytes.
 pub struct Now {
@@ -28,13 +30,13 @@ pub fn begin(pc: u16, used: usize) -> Now
     }
 }
 
-pub fn refused(m: Now, why: u8) -> Now
-    ensures { λ r. ⌜ r ≡ refusedBy why m ⌝ }
+pub fn refused(m: Now, why: Why) -> Now
+    ensures { λ r. ⌜ r ≡ refusedBy (number (whyOf why)) m ⌝ }
 {
     Now {
         pc: m.pc,
         used: m.used,
-        answer: why,
+        answer: answers::number(why),
         byte: 0,
         word: 0,
     }
@@ -96,9 +98,9 @@ pub fn jump(m: Now, a: u16) -> Now
     read(m, a, 0)
 }
 
-// The refusal `why`, unless a test holds.
-pub fn need(m: Now, holds: bool, why: u8) -> Now
-    ensures { λ r. ⌜ ((w : Why) → number w ≡ why → Does (Rules.need holds w) Nothing m r) ⌝ }
+// A refusal, unless a test holds.
+pub fn need(m: Now, holds: bool, why: Why) -> Now
+    ensures { λ r. ⌜ Does (Rules.need holds (whyOf why)) Nothing m r ⌝ }
 {
     if m.answer != 0 {
         return m;

@@ -19,17 +19,16 @@ pub fn in_group(pc: u16, a: u16) -> u16
     (pc / 8192) * 8192 + a % 8192
 }
 
-// Where CASE goes: twice the value further on, within the group.
-pub fn case_target(pc: u16, v: u16) -> u16
-    ensures { λ r. ⌜ r ≡ inGroup pc (pc % group + 2 * v) ⌝ }
-{
-    let twice = v % 4096 * 2;
-    (pc / 8192) * 8192 + (pc % 8192 + twice) % 8192
-}
-
-// An index word or a MOVE's count added.
+// An index word or a MOVE's count added, or CASE's value.
 pub fn plus(a: u16, b: u16) -> u16
     ensures { λ r. ⌜ r ≡ (a + b) % 65536 ⌝ }
 {
     std::num::wrapping_add_u16(a, b)
+}
+
+// Where CASE goes: twice the value further on, within the group.
+pub fn case_target(pc: u16, v: u16) -> u16
+    ensures { λ r. ⌜ r ≡ inGroup pc (pc % group + 2 * v) ⌝ }
+{
+    in_group(pc, plus(pc, plus(v, v)))
 }

@@ -1,5 +1,5 @@
 -- The rows of a table of classes: past the last one there is no such instruction.
-use mathlib.Core.Path.{_≡_, refl, ap, sym}
+use mathlib.Core.Path.{_≡_, refl, sym}
 use mathlib.Core.List.{List, [], _∷_}
 use Prim.Native.Nat.{ℕ, zero, suc, _≤_}
 use native.Mathlib.Nat.{le-of-suc-le-suc, not-suc-le-zero}
@@ -7,7 +7,6 @@ use native.Mathlib.Omega.{arith}
 use lib.ListN.{length}
 use Rattle.rules.specs.Answers.{noSuch}
 use Rattle.rules.specs.Opcodes.{Class, stops, row}
-use Rattle.opcode.specs.Meaning.{halts, said}
 
 -- what a match knows in its last arm: that none of the keys below k is met
 abbrev pub NoneOf : ℕ → ℕ → Type 0
@@ -26,6 +25,5 @@ row-beyond n [] h = refl
 row-beyond zero (c ∷ cs) h = absurd (not-suc-le-zero h)
 row-beyond (suc n) (c ∷ cs) h = row-beyond n cs (le-of-suc-le-suc h)
 
--- so the last arm answers 2
-pub last-arm : (n : ℕ) (l : List Class) → NoneOf n (length l) → halts 2 ≡ said (row n l)
-last-arm n l h = ap said (sym (row-beyond n l (beyond n (length l) h)))
+pub last-arm : (n : ℕ) (l : List Class) → NoneOf n (length l) → stops noSuch ≡ row n l
+last-arm n l h = sym (row-beyond n l (beyond n (length l) h))

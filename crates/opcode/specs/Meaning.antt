@@ -1,7 +1,6 @@
 -- The code's classes and tasks, in the words of the rules.
-use Prim.Native.Nat.{ℕ}
-use Rattle.rules.specs.Answers.{number}
 use Rattle.rules.specs.Opcodes as opcodes
+use Rattle.machine.specs.Meaning.{whyOf}
 use Rattle.flow.specs.Meaning.{testOf}
 use Rattle.arith.specs.Meaning.{oneOf, twoOf}
 use Rattle.opcode.specs.declared.class.Task.{Task}
@@ -30,15 +29,6 @@ taskOf (Mul imm w) = opcodes.mul imm w
 taskOf (Div imm w) = opcodes.div imm w
 taskOf (Ex w) = opcodes.ex w
 
--- a class, with a refusal by its number
-pub data Said : Type 0 where
-  halts : ℕ → Said
-  tasks : opcodes.Task → Said
-
-abbrev pub said : opcodes.Class → Said
-said (opcodes.stops why) = halts (number why)
-said (opcodes.does t) = tasks t
-
-abbrev pub meant : Class → Said
-meant (Stops n) = halts n
-meant (Does t) = tasks (taskOf t)
+abbrev pub meant : Class → opcodes.Class
+meant (Stops why) = opcodes.stops (whyOf why)
+meant (Does t) = opcodes.does (taskOf t)

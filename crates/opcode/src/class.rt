@@ -1,15 +1,15 @@
-// The class of an opcode: the answer that stops it, or its task.
+// The class of an opcode: the refusal that stops it, or its task.
 use arith::effects::One;
 use arith::effects::Two;
 use flow::status::Test;
-use machine::answers;
+use machine::answers::Why;
 ghost use mathlib.Core.Path.{_≡_};
 ghost use Prim.Native.Nat.{_≤_};
 ghost use Rattle.rules.specs.Machine.{pick};
 ghost use Rattle.rules.specs.Answers.{noSuch};
 ghost use Rattle.rules.specs.Opcodes;
 ghost use Rattle.rules.specs.Opcodes.{row, stops, does, ex, lowRows, oneRows, twoRows, moveClass, classOf};
-ghost use Rattle.opcode.specs.Meaning.{meant, said};
+ghost use Rattle.opcode.specs.Meaning.{meant};
 
 // What an opcode does. Flags say, in this order: the source is immediate, the operands are words.
 // A branch has the condition bit that takes it, and the upper bits of its target.
@@ -36,19 +36,19 @@ pub enum Task {
 }
 
 pub enum Class {
-    Stops(u8),
+    Stops(Why),
     Does(Task),
 }
 
 // >00 to >0F.
 fn low_class(op: u8) -> Class
-    ensures { λ r. ⌜ meant r ≡ said (row op lowRows) ⌝ }
+    ensures { λ r. ⌜ meant r ≡ row op lowRows ⌝ }
 {
     match op {
         0 => Class::Does(Task::Rtn),
         1 => Class::Does(Task::Rtnc),
         2 => Class::Does(Task::Rand),
-        3 => Class::Stops(answers::NEEDS_HOST),
+        3 => Class::Stops(Why::NeedsHost),
         4 => Class::Does(Task::Back),
         5 => Class::Does(Task::Long),
         6 => Class::Does(Task::Call),
@@ -56,22 +56,22 @@ fn low_class(op: u8) -> Class
         8 => Class::Does(Task::Fmt),
         9 => Class::Does(Task::Test(Test::High)),
         10 => Class::Does(Task::Test(Test::Greater)),
-        11 => Class::Stops(answers::ENDED),
+        11 => Class::Stops(Why::Ended),
         12 => Class::Does(Task::Test(Test::Carry)),
         13 => Class::Does(Task::Test(Test::Overflow)),
-        14 => Class::Stops(answers::NO_SUCH),
-        15 => Class::Stops(answers::NEEDS_HOST),
-        _ => Class::Stops(answers::NO_SUCH),
+        14 => Class::Stops(Why::NoSuch),
+        15 => Class::Stops(Why::NeedsHost),
+        _ => Class::Stops(Why::NoSuch),
     }
 }
 
 // >30 to >3F, of which those with bits 2 and 1 are none.
 fn move_class(op: u8) -> Class
-    ensures { λ r. ⌜ meant r ≡ said (moveClass op) ⌝ }
+    ensures { λ r. ⌜ meant r ≡ moveClass op ⌝ }
 {
     if number::bits::bit(2, op) {
         if number::bits::bit(1, op) {
-            return Class::Stops(answers::NO_SUCH);
+            return Class::Stops(Why::NoSuch);
         }
         return Class::Does(Task::Move(op % 16));
     }
@@ -80,7 +80,7 @@ fn move_class(op: u8) -> Class
 
 // >80 to >9F, by twos.
 fn one_class(row: u8, wide: bool) -> Class
-    ensures { λ r. ⌜ meant r ≡ said (Opcodes.row row (oneRows wide)) ⌝ }
+    ensures { λ r. ⌜ meant r ≡ Opcodes.row row (oneRows wide) ⌝ }
 {
     match row {
         0 => Class::Does(Task::One(One::Abs, wide)),
@@ -95,23 +95,23 @@ fn one_class(row: u8, wide: bool) -> Class
         9 => Class::Does(Task::One(One::Dec, wide)),
         10 => Class::Does(Task::One(One::Inct, wide)),
         11 => Class::Does(Task::One(One::Dect, wide)),
-        _ => Class::Stops(answers::NO_SUCH),
+        _ => Class::Stops(Why::NoSuch),
     }
 }
 
 // EX, which has no immediate source.
 fn ex_class(imm: bool, wide: bool) -> Class
-    ensures { λ r. ⌜ meant r ≡ said (pick imm (stops noSuch) (does (ex wide))) ⌝ }
+    ensures { λ r. ⌜ meant r ≡ pick imm (stops noSuch) (does (ex wide)) ⌝ }
 {
     if imm {
-        return Class::Stops(answers::NO_SUCH);
+        return Class::Stops(Why::NoSuch);
     }
     Class::Does(Task::Ex(wide))
 }
 
 // >A0 to >F3, by fours.
 fn two_class(row: u8, imm: bool, wide: bool) -> Class
-    ensures { λ r. ⌜ meant r ≡ said (Opcodes.row row (twoRows imm wide)) ⌝ }
+    ensures { λ r. ⌜ meant r ≡ Opcodes.row row (twoRows imm wide) ⌝ }
 {
     match row {
         0 => Class::Does(Task::Two(Two::Add, imm, wide)),
@@ -133,14 +133,14 @@ fn two_class(row: u8, imm: bool, wide: bool) -> Class
         16 => Class::Does(Task::Two(Two::Sll, imm, wide)),
         17 => Class::Does(Task::Two(Two::Srl, imm, wide)),
         18 => Class::Does(Task::Two(Two::Src, imm, wide)),
-        _ => Class::Stops(answers::NO_SUCH),
+        _ => Class::Stops(Why::NoSuch),
     }
 }
 
 // >80 to >FF, by ranges, in the order of the rule's own tests.
 fn upper_class(op: u8) -> Class
     requires { ⌜ 0x80 ≤ op ⌝ }
-    ensures { λ r. ⌜ meant r ≡ said (classOf op) ⌝ }
+    ensures { λ r. ⌜ meant r ≡ classOf op ⌝ }
 {
     if op < 0xA0 {
         let row = (op - 0x80) / 2;
@@ -151,14 +151,14 @@ fn upper_class(op: u8) -> Class
         return two_class(row, number::bits::bit(1, op), number::bits::bit(0, op));
     }
     if op < 0xF8 {
-        return Class::Stops(answers::NEEDS_HOST);
+        return Class::Stops(Why::NeedsHost);
     }
-    Class::Stops(answers::NO_SUCH)
+    Class::Stops(Why::NoSuch)
 }
 
 // The upper half first, which has most of the instructions; then by ranges, in the order of the rule's own tests.
 pub fn class_of(op: u8) -> Class
-    ensures { λ r. ⌜ meant r ≡ said (classOf op) ⌝ }
+    ensures { λ r. ⌜ meant r ≡ classOf op ⌝ }
 {
     if 0x80 <= op {
         return upper_class(op);
@@ -167,7 +167,7 @@ pub fn class_of(op: u8) -> Class
         return low_class(op);
     }
     if op < 0x30 {
-        return Class::Stops(answers::NO_SUCH);
+        return Class::Stops(Why::NoSuch);
     }
     if op < 0x40 {
         return move_class(op);

@@ -8,7 +8,7 @@ use native.Mathlib.Omega.{arith}
 use lib.Dec.{eqb}
 use borrow.Author.Tests.{leb-true}
 use Rattle.rules.specs.Machine.{Mem}
-use Rattle.rules.specs.Answers.{number, outside}
+use Rattle.rules.specs.Answers.{Why, number, outside}
 use Rattle.rules.specs.Rules.{Rule}
 use Rattle.rules.specs.Operands.{Cell, inReach, reached}
 use Rattle.rules.proofs.Undo.{reach-small}
@@ -29,9 +29,9 @@ module _ (n : ℕ) (c : Cell) {a pc : ℕ} {m : Mem} where
   unfolding reached
   reached-at z h = seq (need-holds _ h) (gives refl)
 
-  pub reached-out : {b : ℕ} {v : Cell} → a ≡ 0 → inReach n c ≡ false → b ≡ number (outside (c .kind)) → Goes (stand a pc m) (reached n c) v (stand b pc m)
+  pub reached-out : {why : Why} {v : Cell} → a ≡ 0 → inReach n c ≡ false → why ≡ outside (c .kind) → Goes (stand a pc m) (reached n c) v (stand (number why) pc m)
   unfolding reached
-  reached-out z h e = refuses _ _ z e h
+  reached-out z h e = refuses _ z e h
 
 -- an operand as the code takes it apart, by its place and its state
 pub apart : {i p v g j : List ℕ} {s : Stand} {n : Now} {l : Place} {r : Rule Cell} (q : Operand)

@@ -3,7 +3,7 @@ use crate::places;
 use crate::places::Located;
 use crate::places::Operand;
 use crate::places::Place;
-use machine::answers;
+use machine::answers::Why;
 use machine::cells;
 use machine::grom;
 use machine::pad as cpu;
@@ -109,7 +109,7 @@ fn pop_cell(pad: &mut [u8], journal: &mut [u32], m: Now) -> Located
 {
     let p = cpu::peek_pad(pad, m, cells::DATA_POINTER);
     let top = p.byte as u16;
-    let tested = state::need(p, on_data_stack(top), answers::OFF_STACK);
+    let tested = state::need(p, on_data_stack(top), Why::OffStack);
     let below = down(p.byte);
     let lowered = cpu::poke_pad(pad, journal, tested, cells::DATA_POINTER, below);
     Located {

@@ -1,12 +1,12 @@
 // A CPU cell, a VDP cell or a refusal.
-use machine::answers;
+use machine::answers::Why;
 use machine::cells;
 use machine::state::Now;
 ghost use mathlib.Core.Path.{_≡_};
 ghost use Prim.Native.Nat.{_+_, _≤_, _<_};
 ghost use Rattle.rules.specs.Answers;
-ghost use Rattle.rules.specs.Answers.{number};
 ghost use Rattle.rules.specs.Operands.{inReach, past, isBuffer};
+ghost use Rattle.machine.specs.Meaning.{whyOf};
 ghost use Rattle.operand.specs.Meaning.{cellOf, placeOf, nowOf};
 
 pub enum Place {
@@ -63,12 +63,12 @@ pub fn in_reach(n: usize, place: Place) -> bool
 }
 
 // The refusal of a place out of range.
-pub fn outside(place: Place) -> u8
-    ensures { λ r. ⌜ r ≡ number (Answers.outside (cellOf place .kind)) ⌝ }
+pub fn outside(place: Place) -> Why
+    ensures { λ r. ⌜ whyOf r ≡ Answers.outside (cellOf place .kind) ⌝ }
 {
     match place {
-        Place::Cpu(_) => answers::OFF_CPU,
-        Place::Vdp(_) => answers::OFF_VDP,
+        Place::Cpu(_) => Why::OffCpu,
+        Place::Vdp(_) => Why::OffVdp,
     }
 }
 

@@ -1,5 +1,5 @@
 // The screen: the position that row and column name, the byte there, and the character buffer.
-use machine::answers;
+use machine::answers::Why;
 use machine::cells;
 use machine::pad as cpu;
 use machine::state;
@@ -32,7 +32,7 @@ pub fn draw(vram: &mut [u8], journal: &mut [u32], m: Now, p: u16, b: u8) -> Now
     requires { ⌜ IsVram vram ⌝ }
     ensures { λ r. ⌜ Does (Operands.draw p b) (Vram vram & Journal journal) m r ⌝ }
 {
-    let tested = state::need(m, on_screen(p), answers::OFF_SCREEN);
+    let tested = state::need(m, on_screen(p), Why::OffScreen);
     let at = p as usize;
     vdp::poke_vdp(vram, journal, tested, at, b)
 }
@@ -42,7 +42,7 @@ pub fn screen_byte(pad: &[u8], vram: &[u8], m: Now) -> Now
     ensures { λ r. ⌜ Gives (r .byte) Operands.screenByte (Pad pad & Vram vram) m r ⌝ }
 {
     let p = position(pad, m);
-    let tested = state::need(p, on_screen(p.word), answers::OFF_SCREEN);
+    let tested = state::need(p, on_screen(p.word), Why::OffScreen);
     let at = p.word as usize;
     vdp::peek_vdp(vram, tested, at)
 }

@@ -1,5 +1,5 @@
 // The subroutine stack: pc pushed and popped. Its pointer is at >73.
-use machine::answers;
+use machine::answers::Why;
 use machine::cells;
 use machine::state::Now;
 ghost use mathlib.Core.Path.{_≡_};
@@ -26,7 +26,7 @@ fn on_sub_stack(p: u16) -> bool
 fn need_on_stack(m: Now, at: u16) -> Now
     ensures { λ r. ⌜ Does (need (onSubStack at) offStack) Nothing m r ⌝ }
 {
-    machine::state::need(m, on_sub_stack(at), answers::OFF_STACK)
+    machine::state::need(m, on_sub_stack(at), Why::OffStack)
 }
 
 // The pointer up by 2, which is the value given.

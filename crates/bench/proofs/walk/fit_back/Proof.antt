@@ -5,14 +5,14 @@ use Rattle.bench.proofs.walk.fit_back.Statement.{statement}
 use Rattle.bench.proofs.walk.fit_back.Tie as tie
 
 returns : tie.Need-returns
-returns c = λ _. rw (c .refused .ensures) (back-lost _ (c .before .before .find .ensures) (c .before .if1 .taken))
+returns c = λ _. rw (c .refused .ensures) (back-lost _ (c .before .before .find .ensures .0) (c .before .if1 .taken))
 
 returns-2 : tie.Need-returns-2
 returns-2 c =
     let at-undo = c .before .before .before .before .before .before .before .before in
     let at-if1 = at-undo .before .before .before .before .before in
     let at-find = at-if1 .before in
-    λ _. back-found (at-find .find .ensures) (at-if1 .if1 .left) (at-undo .undo .ensures _)
+    λ _. back-found (at-find .find .ensures .0) (at-if1 .if1 .left) (at-undo .undo .ensures _)
 
 pub fit-back-spec : {M : Type 1} → statement M
 fit-back-spec =

@@ -45,7 +45,7 @@ returns c =
     let at-operand-value = at-peek-pad .before .before .before .before .before .before in
     λ _.
     bind _ (at-operand-value .operand-value .ensures .1 _) (bind _ (at-peek-pad .peek-pad .ensures _)
-    (seq (via (λ b. need b offStack) (at-on-data-stack .on-data-stack .ensures) (at-need .need .ensures offStack refl _))
+    (seq (via (λ b. need b offStack) (at-on-data-stack .on-data-stack .ensures) (at-need .need .ensures _))
     (seq (kept-byte refl (at-poke-pad .poke-pad .ensures _))
     (via (poke cpu _) (at-low-of .low-of .ensures) (c .before .before .before .before .poke-pad2 .ensures _)))))
 

@@ -60,7 +60,7 @@ loop-again c =
 returns-3 : tie.Need-returns-3 Inv-loop μ-loop
 unfolding fmtRule
 returns-3 c =
-    λ _. ends (c .before .before .loop .inv .0 _) (by-rule (codes-out _ _ (omega arith)) (c .need .ensures tooLong refl _))
+    λ _. ends (c .before .before .loop .inv .0 _) (by-rule (codes-out _ _ (omega arith)) (c .need .ensures _))
 
 pub format-spec : {M : Type 1} → statement M
 format-spec =

@@ -18,7 +18,7 @@ returns c =
     λ _.
     bind _ (apart (at-operand .operand .result) (at-operand .operand .ensures .1 _) (at-now-of .now-of .ensures)
     (c .before .before .before .before .place-of .ensures))
-    (seq (via (λ (t : Bool). need t offCpu) (c .before .before .before .is-cpu .ensures) (c .before .before .need .ensures offCpu refl _))
+    (seq (via (λ (t : Bool). need t offCpu) (c .before .before .before .is-cpu .ensures) (c .before .before .need .ensures _))
     (via give (c .before .offset-of .ensures) (c .give-word .ensures .1 _)))
 
 pub cpu-operand-spec : {M : Type 1} → statement M

@@ -18,16 +18,21 @@ loop-holds : tie.Need-loop-holds Inv-loop μ-loop
 loop-holds c = (scan-start _ _, omega arith)
 
 returns : tie.Need-returns Inv-loop μ-loop
-returns c = scan-bad _ _ _ _ (c .before .before .before .before .loop .inv .0) _ (c .before .before .before .loop-test .taken) refl
-    (sym (c .before .sound .ensures) ∙ denied (c .before .sound .result) (c .if1 .taken))
+returns c = (
+  scan-bad _ _ _ _ (c .before .before .before .before .loop .inv .0) _ (c .before .before .before .loop-test .taken) refl
+      (sym (c .before .sound .ensures) ∙ denied (c .before .sound .result) (c .if1 .taken)),
+  λ _. refl,
+)
 
 returns-2 : tie.Need-returns-2 Inv-loop μ-loop
 returns-2 c =
     let at-loop-test = c .before .before .before .before .before in
-    let at-loop = at-loop-test .before in
-    scan-mark _ _ _ _ (at-loop .loop .inv .0) _ _ _ (at-loop-test .loop-test .taken) (at-loop .loop .inv .1) refl
-    (sym (c .before .before .before .sound .ensures) ∙ granted (c .before .before .before .sound .result) (c .before .before .if1 .left))
-    (c .before .kind-of .ensures) (c .if2 .taken) refl
+    let at-loop = at-loop-test .before in (
+      scan-mark _ _ _ _ (at-loop .loop .inv .0) _ _ _ (at-loop-test .loop-test .taken) (at-loop .loop .inv .1) refl
+          (sym (c .before .before .before .sound .ensures) ∙ granted (c .before .before .before .sound .result) (c .before .before .if1 .left))
+          (c .before .kind-of .ensures) (c .if2 .taken) refl,
+      λ z. absurd (omega (arith, at-loop .loop .inv .1, at-loop-test .loop-test .taken)),
+    )
 
 loop-again : tie.Need-loop-again Inv-loop μ-loop
 loop-again c =
@@ -40,7 +45,7 @@ loop-again c =
     )
 
 returns-3 : tie.Need-returns-3 Inv-loop μ-loop
-returns-3 c = scan-end _ _ _ _ (c .before .loop .inv .0) (c .loop-test .left)
+returns-3 c = (scan-end _ _ _ _ (c .before .loop .inv .0) (c .loop-test .left), λ _. refl)
 
 pub find-spec : {M : Type 1} → statement M
 find-spec =

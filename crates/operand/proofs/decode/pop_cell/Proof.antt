@@ -18,7 +18,7 @@ returns c =
     let at-peek-pad = at-on-data-stack .before .before in
     λ _.
     bind _ (at-peek-pad .peek-pad .ensures _) (seq
-    (via (λ b. need b offStack) (at-on-data-stack .on-data-stack .ensures) (at-need .need .ensures offStack refl _))
+    (via (λ b. need b offStack) (at-on-data-stack .on-data-stack .ensures) (at-need .need .ensures _))
     (seq (via (poke cpu _) (at-down .down .ensures) (c .before .before .before .before .poke-pad .ensures _)) (gives refl)))
 
 pub pop-cell-spec : {M : Type 1} → statement M

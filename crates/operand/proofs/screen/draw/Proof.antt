@@ -14,7 +14,7 @@ returns c =
     let at-need = c .before .before .before .before .before .before .before in
     let at-on-screen = at-need .before in
     λ _.
-    seq (via (λ b. need b offScreen) (at-on-screen .on-screen .ensures) (at-need .need .ensures offScreen refl _))
+    seq (via (λ b. need b offScreen) (at-on-screen .on-screen .ensures) (at-need .need .ensures _))
     (c .before .before .before .before .poke-vdp .ensures _)
 
 pub draw-spec : {M : Type 1} → statement M

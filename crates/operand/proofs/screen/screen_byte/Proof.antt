@@ -13,7 +13,7 @@ unfolding screenByte
 returns c =
     λ _.
     bind _ (c .before .before .before .before .position .ensures .1 _)
-    (seq (via (λ b. need b offScreen) (c .before .before .before .on-screen .ensures) (c .before .before .need .ensures offScreen refl _))
+    (seq (via (λ b. need b offScreen) (c .before .before .before .on-screen .ensures) (c .before .before .need .ensures _))
     (c .peek-vdp .ensures _))
 
 pub screen-byte-spec : {M : Type 1} → statement M

@@ -9,7 +9,7 @@ use Rattle.operand.proofs.stacks.need_on_stack.Statement.{statement}
 use Rattle.operand.proofs.stacks.need_on_stack.Tie as tie
 
 returns : tie.Need-returns
-returns c = λ _. via (λ (t : Bool). need t offStack) (c .before .on-sub-stack .ensures) (c .need .ensures offStack refl _)
+returns c = λ _. via (λ (t : Bool). need t offStack) (c .before .on-sub-stack .ensures) (c .need .ensures _)
 
 pub need-on-stack-spec : {M : Type 1} → statement M
 need-on-stack-spec =
