@@ -110,6 +110,9 @@ backing s = outcome (calls.stepBack s) 0
 
 -- ---- a run: the rules' report
 
+abbrev pub noSteps : ℕ → At → runs.Report
+noSteps a at = record { answer = a; steps = 0; stores = 0; at = at }
+
 abbrev pub reported : Returned runs.Report → calls.Report
 reported x = calls.report (x .result .answer) (x .result .steps) (x .result .stores) (standsAt x (x .result .at))
 

@@ -4,10 +4,12 @@ use crate::fits;
 use crate::walk;
 use machine::answers;
 use machine::answers::Why;
+ghost use mathlib.Core.Path.{_≡_};
+ghost use Rattle.rules.specs.Answers.{number};
 ghost use Rattle.rules.specs.Calls;
 ghost use Rattle.rules.specs.Calls.{steps};
-ghost use Rattle.machine.specs.Meaning.{_&_, Image, Journal, Pad, Regs, Vram};
-ghost use Rattle.bench.specs.Meaning.{Fits, Reports};
+ghost use Rattle.machine.specs.Meaning.{whyOf, _&_, Image, Journal, Pad, Regs, Vram};
+ghost use Rattle.bench.specs.Meaning.{noSteps, Fits, Reports};
 
 // What a run leaves: its answer, how many steps were done, how many bytes these stored, and where the machine stands.
 pub struct Report {
@@ -15,6 +17,18 @@ pub struct Report {
     pub steps: u32,
     pub stores: u64,
     pub at: At,
+}
+
+// No step was made.
+fn turned_down(why: Why, at: At) -> Report
+    ensures { λ r. ⌜ r ≡ noSteps (number (whyOf why)) at ⌝ }
+{
+    Report {
+        answer: answers::number(why),
+        steps: 0,
+        stores: 0,
+        at,
+    }
 }
 
 // A run past test 11, which every accepted step leaves passed.
@@ -76,12 +90,7 @@ pub fn run(
         at.used,
     );
     if !fit {
-        return Report {
-            answer: answers::number(Why::WrongLength),
-            steps: 0,
-            stores: 0,
-            at,
-        };
+        return turned_down(Why::WrongLength, at);
     }
     fit_run(image, pad, vram, regs, journal, at, n)
 }

@@ -8,8 +8,9 @@ use machine::state::Now;
 use opcode::class::Class;
 use opcode::class::Task;
 ghost use mathlib.Core.Path.{_≡_};
+ghost use Rattle.rules.specs.Answers.{number};
 ghost use Rattle.opcode.specs.Meaning.{taskOf};
-ghost use Rattle.machine.specs.Meaning.{_&_, Image, Journal, Pad, Regs, Vram};
+ghost use Rattle.machine.specs.Meaning.{whyOf, _&_, Image, Journal, Pad, Regs, Vram};
 ghost use Rattle.bench.specs.Meaning.{Fit, Attempts, Replies, refusal, beginning, settling, stepping, undoing, backing};
 
 // What a call leaves: its answer, how many bytes it stored, and where the machine stands.
@@ -27,6 +28,12 @@ fn refused(answer: u8, at: At) -> Reply
         stores: 0,
         at,
     }
+}
+
+fn turned_down(why: Why, at: At) -> Reply
+    ensures { λ r. ⌜ r ≡ refusal (number (whyOf why)) at ⌝ }
+{
+    refused(answers::number(why), at)
 }
 
 // ---- a step
@@ -96,7 +103,7 @@ pub(crate) fn fit_step(
     }
     let class = opcode::class::class_of(op.byte);
     match class {
-        Class::Stops(why) => refused(answers::number(why), at),
+        Class::Stops(why) => turned_down(why, at),
         Class::Does(task) => do_task(image, pad, vram, regs, journal, at, op.pc, task),
     }
 }
@@ -120,7 +127,7 @@ pub fn step(
         at.used,
     );
     if !fit {
-        return refused(answers::number(Why::WrongLength), at);
+        return turned_down(Why::WrongLength, at);
     }
     fit_step(image, pad, vram, regs, journal, at)
 }
@@ -135,7 +142,7 @@ fn fit_back(pad: &mut [u8], vram: &mut [u8], regs: &mut [u8], journal: &mut [u32
     let found = machine::journal::find(journal, at.used);
     let words = found.words;
     if words == 0 {
-        return refused(answers::number(Why::NoRecord), at);
+        return turned_down(Why::NoRecord, at);
     }
     let left = machine::journal::undo(pad, vram, regs, journal, at.used, words);
     let back = At {
@@ -160,7 +167,7 @@ pub fn step_back(
 {
     let fit = fits::parts_fit(pad.len(), vram.len(), regs.len(), journal.len(), at.used);
     if !fit {
-        return refused(answers::number(Why::WrongLength), at);
+        return turned_down(Why::WrongLength, at);
     }
     fit_back(pad, vram, regs, journal, at)
 }

@@ -7,7 +7,7 @@ use Rattle.bench.proofs.runs.run.Statement.{statement}
 use Rattle.bench.proofs.runs.run.Tie as tie
 
 returns : tie.Need-returns
-returns c = λ _. run-unfit _ (c .before .all-fit .ensures) (denied _ (c .if1 .taken))
+returns c = λ _. rw (c .turned-down .ensures) (run-unfit _ (c .before .before .all-fit .ensures) (denied _ (c .before .if1 .taken)))
 
 fit-run-requires : tie.Need-fit-run-requires
 fit-run-requires c κs =
@@ -23,5 +23,5 @@ returns-2 c =
 
 pub run-spec : {M : Type 1} → statement M
 run-spec =
-    tie.close (tie.spec (search needs) returns fit-run-requires (search needs) (search needs) (search needs) (search needs)
+    tie.close (tie.spec (search needs) (search needs) returns fit-run-requires (search needs) (search needs) (search needs) (search needs)
     returns-2)

@@ -5,7 +5,7 @@ use Rattle.bench.proofs.walk.fit_back.Statement.{statement}
 use Rattle.bench.proofs.walk.fit_back.Tie as tie
 
 returns : tie.Need-returns
-returns c = λ _. rw (c .refused .ensures) (back-lost _ (c .before .before .find .ensures .0) (c .before .if1 .taken))
+returns c = λ _. rw (c .turned-down .ensures) (back-lost _ (c .before .before .find .ensures .0) (c .before .if1 .taken))
 
 returns-2 : tie.Need-returns-2
 returns-2 c =

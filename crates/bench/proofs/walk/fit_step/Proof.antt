@@ -19,7 +19,7 @@ returns-2 c =
     let at-if1 = at-class-of .before in
     let at-next-byte = at-if1 .before .before in
     let at-begin = at-next-byte .before in
-    λ _. rw (c .refused2 .ensures) (step-halted (from (at-begin .begin .ensures) (at-next-byte .next-byte .ensures _)) (at-if1 .if1 .left)
+    λ _. rw (c .turned-down .ensures) (step-halted (from (at-begin .begin .ensures) (at-next-byte .next-byte .ensures _)) (at-if1 .if1 .left)
     (ap meant (sym (at-class .class .given .1)) ∙ at-class-of .class-of .ensures))
 
 returns-3 : tie.Need-returns-3

@@ -9,7 +9,7 @@ use Rattle.bench.proofs.walk.step.Statement.{statement}
 use Rattle.bench.proofs.walk.step.Tie as tie
 
 returns : tie.Need-returns
-returns c = λ _. rw (c .refused .ensures) (step-unfit (c .before .before .all-fit .ensures) (denied _ (c .before .if1 .taken)))
+returns c = λ _. rw (c .turned-down .ensures) (step-unfit (c .before .before .all-fit .ensures) (denied _ (c .before .if1 .taken)))
 
 fit-step-requires : tie.Need-fit-step-requires
 fit-step-requires c κs =

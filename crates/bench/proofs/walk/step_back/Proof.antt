@@ -7,7 +7,7 @@ use Rattle.bench.proofs.walk.step_back.Statement.{statement}
 use Rattle.bench.proofs.walk.step_back.Tie as tie
 
 returns : tie.Need-returns
-returns c = λ _. rw (c .refused .ensures) (back-unfit (c .before .before .parts-fit .ensures) (denied _ (c .before .if1 .taken)))
+returns c = λ _. rw (c .turned-down .ensures) (back-unfit (c .before .before .parts-fit .ensures) (denied _ (c .before .if1 .taken)))
 
 fit-back-requires : tie.Need-fit-back-requires
 fit-back-requires c κs =

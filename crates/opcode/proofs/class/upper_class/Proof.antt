@@ -8,7 +8,6 @@ use borrow.Author.Tests.{lt-ltb, le-ltb}
 use Rattle.rules.specs.Machine.{pick, bit}
 use Rattle.rules.specs.Answers.{noSuch, needsHost}
 use Rattle.rules.specs.Opcodes.{Class, stops, row, oneRows, twoRows, classOf}
-use Rattle.opcode.specs.Meaning.{said}
 use borrow.Author.Needs.{needs}
 use Rattle.opcode.proofs.class.upper_class.Statement.{statement}
 use Rattle.opcode.proofs.class.upper_class.Tie as tie
@@ -30,7 +29,7 @@ returns c =
     let start = at-if1 .before in
     let op = start .args .op in
     rw (sym (passed op (start .pre)), lt-ltb _ _ (at-if1 .if1 .taken))
-    (c .one-class .ensures ∙ ap (λ (w : Bool). said (row ((op - 0x80) / 2) (oneRows w))) (c .before .bit .ensures))
+    (c .one-class .ensures ∙ ap (λ (w : Bool). row ((op - 0x80) / 2) (oneRows w)) (c .before .bit .ensures))
 
 returns-2 : tie.Need-returns-2
 returns-2 c =
@@ -39,7 +38,7 @@ returns-2 c =
     let start = at-if1 .before in
     let op = start .args .op in
     rw (sym (passed op (start .pre)), le-ltb _ _ (at-if1 .if1 .left), lt-ltb _ _ (at-if2 .if2 .taken))
-    (c .two-class .ensures ∙ ap₂ (λ (imm w : Bool). said (row ((op - 0xA0) / 4) (twoRows imm w))) (c .before .before .bit2 .ensures) (c .before .bit3 .ensures))
+    (c .two-class .ensures ∙ ap₂ (λ (imm w : Bool). row ((op - 0xA0) / 4) (twoRows imm w)) (c .before .before .bit2 .ensures) (c .before .bit3 .ensures))
 
 returns-3 : tie.Need-returns-3
 returns-3 c =
