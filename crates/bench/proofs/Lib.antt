@@ -3,3 +3,4 @@ pub mod Replies
 pub mod Steps
 pub mod Ahead
 pub mod Promises
+pub mod Sequence

@@ -1,22 +1,20 @@
 -- The demands, of the public calls. A hypothesis `Tells told stepping ..` is the contract of `step`, of a state lent and what it returned; so for the others.
 use mathlib.Core.Path.{_≡_, refl, _∙_, ap, sym, subst}
 use mathlib.Core.Bool.{Bool, true, false}
-use mathlib.Core.List.{List, []}
+use mathlib.Core.List.{List}
 use Prim.Native.Nat.{ℕ}
 use Rattle.rules.specs.Machine.{pick, State}
 use Rattle.rules.specs.Answers.{number, wrongLength}
 use Rattle.rules.specs.Calls.{memFits, fits, Reply, done, refused, made, Report, report, run, Find, found, lost, scan, backTo, fitBack, stepBack, Memory, view}
-use Rattle.rules.specs.Demands.{Good, BackCause, wrong-parts, no-record, Demand1, Demand2, Op, play, kept, Ends, Demand3}
+use Rattle.rules.specs.Demands.{BackCause, wrong-parts, no-record, Demand1, Demand2, Ends}
 use Rattle.rules.proofs.Named.{Answered, named-run}
 use Rattle.rules.proofs.Replies as replies-of
 use Rattle.rules.proofs.Run as run-of
-use Rattle.rules.proofs.History as history
 use Rattle.bench.specs.declared.at.At.{At}
 use Rattle.bench.specs.declared.walk.Reply as walk
 use Rattle.bench.specs.declared.runs.Report as runs
 use Rattle.bench.specs.Meaning.{Returned, returnedOf, leaves, told, stepping, backing, reported, Tells}
-use Rattle.bench.specs.Promised.{Called, no-call, by-step, by-step-back}
-use Rattle.bench.proofs.Replies.{accepts, refuses, leads, counts, same-told}
+use Rattle.bench.proofs.Replies.{accepts, refuses, counts, same-told}
 
 -- ---- Each contract determines what it speaks of: two outcomes that it allows are equal, every lent byte and the result.
 
@@ -87,17 +85,3 @@ stays s = go (memFits (s .mem)) refl (scan (s .mem .used) (s .mem .journal)) ref
 pub step-back-refused : {s : State} {x : Returned walk.Reply} → Tells told backing s x → (x .result .answer ≡ 0 → ⊥)
     → BackCause s (x .result .answer) × (leaves x ≡ s)
 step-back-refused {s = s} e h = subst (StaysAs s) (refuses e h) (stays s)
-
--- ---- any sequence of calls
-
--- the calls lead where the rules' do: by induction on the sequence
-played : {s t : State} {os : List Op} → Called s os t → t ≡ play os s
-played no-call = refl
-played (by-step {os = os} e c) = played c ∙ ap (play os) (leads e)
-played (by-step-back {os = os} e c) = played c ∙ ap (play os) (leads e)
-
--- Demand 3. From any state with an empty journal, after any sequence of calls of `step` and `step_back`, refused ones among them: pc and memories are those
--- reached by only the accepted steps not taken back; a step back is refused only when no such step is left; and the journal uses one word for each such
--- step and one for each store that it made.
-pub demand3 : (s₀ t : State) (os : List Op) → Good s₀ → s₀ .mem .used ≡ 0 → Called s₀ os t → Demand3 s₀ (kept os s₀ 0) t
-demand3 s₀ t os g z c = subst (Demand3 s₀ (kept os s₀ 0)) (sym (played c)) (history.demand3 s₀ g z os)

@@ -1,6 +1,5 @@
 -- What a reply tells: the rules' answer, the state that it leaves, and its stores; and that nothing else could have told the same.
 use mathlib.Core.Path.{_≡_, refl, _∙_, ap, ap₂, sym}
-use mathlib.Core.List.{List}
 use Prim.Native.Nat.{ℕ, zero, suc}
 use native.Mathlib.Omega.{arith}
 use borrow.Author.Tests.{ne-eqb}
@@ -20,7 +19,7 @@ said-state zero s = refl
 said-state (suc a) s = rw (ne-eqb (suc a) 0 (λ e. omega arith))
 
 module _ {f : State → Outcome} {s : State} {x : Returned walk.Reply} (e : Tells told f s x) where
-  says : f s .reply ≡ replies (x .result .answer) (leaves x)
+  pub says : f s .reply ≡ replies (x .result .answer) (leaves x)
   says = sym (ap (λ (o : Outcome). o .reply) (e .is))
 
   pub accepts : x .result .answer ≡ 0 → f s .reply ≡ done (leaves x)

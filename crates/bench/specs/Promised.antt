@@ -1,13 +1,71 @@
 -- What the theorems about the public calls speak of. Of a call they know its contract alone.
+use mathlib.Core.Path.{_≡_}
 use mathlib.Core.List.{List, [], _∷_}
-use Prim.Native.Nat.{ℕ}
-use Rattle.rules.specs.Machine.{State}
-use Rattle.rules.specs.Demands.{Op, forth, aback}
+use Prim.Native.Nat.{ℕ, suc, _+_, _-_, _<_}
+use lib.Dec.{eqb}
+use Rattle.rules.specs.Machine.{pick, State}
+use Rattle.rules.specs.Calls.{run}
+use Rattle.rules.specs.Demands.{BackCause, total, Demand3}
 use Rattle.bench.specs.declared.walk.Reply as walk
-use Rattle.bench.specs.Meaning.{Returned, leaves, told, Tells, stepping, backing}
+use Rattle.bench.specs.declared.runs.Report as runs
+use Rattle.bench.specs.Meaning.{Returned, leaves, told, stepping, backing, reported, Tells}
 
--- "any sequence of steps and step-backs": calls of `step` and `step_back`, each known by its contract, that lead from a state to another
-pub data Called : State → List Op → State → Type 0 where
-  no-call : {s : State} → Called s [] s
-  by-step : {s t : State} {os : List Op} {x : Returned walk.Reply} → Tells told stepping s x → Called (leaves x) os t → Called s (forth ∷ os) t
-  by-step-back : {s t : State} {os : List Op} {x : Returned walk.Reply} → Tells told backing s x → Called (leaves x) os t → Called s (aback ∷ os) t
+-- ---- a sequence of calls
+
+-- what a call said: the result that it handed back
+pub data Said : Type 0 where
+  stepped backed : walk.Reply → Said
+  ran : runs.Report → Said
+
+-- "any sequence of steps and step-backs, refused ones among them", and runs: calls, each known by its contract, that have led from s₀ to a state; and what they
+-- said, newest first
+pub data Called (s₀ : State) : List Said → State → Type 0 where
+  no-call : Called s₀ [] s₀
+  then-step : {l : List Said} {s : State} {x : Returned walk.Reply} → Called s₀ l s → Tells told stepping s x → Called s₀ (stepped (x .result) ∷ l) (leaves x)
+  then-back : {l : List Said} {s : State} {x : Returned walk.Reply} → Called s₀ l s → Tells told backing s x → Called s₀ (backed (x .result) ∷ l) (leaves x)
+  then-run : {l : List Said} {s : State} (n : ℕ) {x : Returned runs.Report} → Called s₀ l s → Tells reported (run n) s x
+      → Called s₀ (ran (x .result) ∷ l) (reported x .end)
+
+-- ---- what a caller counts of it, knowing nothing else
+
+-- "the accepted steps not taken back", their stores, and the journal words in use
+pub record Count : Type 0 where
+  pub steps : ℕ
+  pub stores : ℕ
+  pub used : ℕ
+
+abbrev pub count : ℕ → ℕ → ℕ → Count
+count k n u = record { steps = k; stores = n; used = u }
+
+-- a step that was done is one more
+abbrev pub oneMore : walk.Reply → Count → Count
+oneMore r c = count (suc (c .steps)) (c .stores + r .stores) (r .at .used)
+
+-- a step back that was done is one less: the words that it has freed are the mark and the stores of that step
+abbrev pub oneLess : walk.Reply → Count → Count
+oneLess r c = count (c .steps - 1) (c .stores - (c .used - r .at .used - 1)) (r .at .used)
+
+-- what was refused counts for nothing; a run counts by its own report
+abbrev pub counts : Said → Count → Count
+counts (stepped r) c = pick (eqb (r .answer) 0) (oneMore r c) c
+counts (backed r) c = pick (eqb (r .answer) 0) (oneLess r c) c
+counts (ran r) c = count (c .steps + r .steps) (c .stores + r .stores) (r .at .used)
+
+-- from "an empty journal" on
+abbrev pub countOf : List Said → Count
+countOf [] = count 0 0 0
+countOf (a ∷ l) = counts a (countOf l)
+
+-- ---- demand 3
+
+-- What is so of the state s to which calls from s₀ have led, where c is what was counted:
+pub record Keeps (s₀ : State) (c : Count) (s : State) : Type 0 where
+  -- so many steps, and no other call, lead from s₀ to the same address, memories and journal words
+  pub steps : Demand3 s₀ (c .steps) s
+  -- "The journal then uses one word for each such step and one for each store that it made"
+  pub used : s .mem .used ≡ c .used
+  pub words : c .used ≡ c .steps + c .stores
+  pub stores : c .stores ≡ total (c .steps) s₀
+  -- "A step-back is refused only when no such step is left.": the answer of the next one
+  pub some-left : {x : Returned walk.Reply} → Tells told backing s x → 0 < c .steps → x .result .answer ≡ 0
+  pub none-left : {x : Returned walk.Reply} → Tells told backing s x → c .steps ≡ 0 → BackCause s (x .result .answer)

@@ -1,16 +1,21 @@
 -- What a host in C hears is what bench's call tells: the report that its numbers make, read as a reply.
 use mathlib.Core.Path.{_≡_, refl, _∙_, ap}
+use mathlib.Core.List.{List}
 use Prim.Native.Nat.{ℕ}
 use native.Mathlib.Omega.{arith}
 use borrow.Author.Tests.{ne-eqb}
 use Rattle.rules.specs.Machine.{State}
 use Rattle.rules.specs.Calls.{Reply, done, refused, Report, run}
+use Rattle.rules.specs.Demands.{Good}
 use Rattle.rules.proofs.Named.{NamedReply, named-step, named-back}
 use Rattle.rules.proofs.Opcodes.{never-done}
 use Rattle.bench.specs.Meaning.{Returned, Outcome, outcome, replies, told, stepping, backing, reported, Tells}
+use Rattle.bench.specs.Promised.{Said, Called, no-call, then-step, then-back, then-run, countOf, Keeps}
+use Rattle.bench.proofs.Sequence.{demand3}
 use Rattle.export.specs.Meaning.{Numbers, heard, tallied, counted, oneStep, oneBack}
 use Rattle.witness.specs.Demanded as demanded
-use Rattle.witness.specs.Hosted.{asReply, asReport}
+use Rattle.witness.specs.Hosted as hosted
+use Rattle.witness.specs.Hosted.{asReply, asReport, HostCalled}
 use Rattle.witness.proofs.Borne.{step-bears, back-bears, run-bears}
 
 -- a report read as a reply, and that this undoes the counting
@@ -28,13 +33,36 @@ heard-reply : (f : State → Outcome) (s : State) (x : Returned Numbers) → Nam
 unfolding heard counted replied
 heard-reply f s x h e = record { is = ap replied e ∙ uncounted (f s .reply) (f s .stores) h }
 
+-- ---- each call
+
 module _ {s : State} {x : Returned Numbers} where
+  step-told : Tells heard oneStep s x → Tells told stepping s (asReply x)
+  step-told e = heard-reply stepping s x (named-step s) (e .is)
+
+  back-told : Tells heard oneBack s x → Tells told backing s (asReply x)
+  back-told e = heard-reply backing s x (named-back s) (e .is)
+
+  run-told : (n : ℕ) → Tells heard (run n) s x → Tells reported (run n) s (asReport x)
+  unfolding heard
+  run-told n e = record { is = e .is }
+
   pub step-heard : Tells heard oneStep s x → demanded.Step s (asReply x)
-  step-heard e = step-bears (heard-reply stepping s x (named-step s) (e .is))
+  step-heard e = step-bears (step-told e)
 
   pub back-heard : Tells heard oneBack s x → demanded.Back s (asReply x)
-  back-heard e = back-bears (heard-reply backing s x (named-back s) (e .is))
+  back-heard e = back-bears (back-told e)
 
   pub run-heard : (n : ℕ) → Tells heard (run n) s x → demanded.Run n s (asReport x)
-  unfolding heard
-  run-heard n e = run-bears n (record { is = e .is })
+  run-heard n e = run-bears n (run-told n e)
+
+-- ---- any sequence of them
+
+as-called : {s₀ s : State} {l : List Said} → HostCalled s₀ l s → Called s₀ l s
+as-called hosted.no-call = no-call
+as-called (hosted.then-step h e) = then-step (as-called h) (step-told e)
+as-called (hosted.then-back h e) = then-back (as-called h) (back-told e)
+as-called (hosted.then-run n h e) = then-run n (as-called h) (run-told n e)
+
+-- Demand 3, of the calls for C.
+pub demand3-heard : {s₀ s : State} {l : List Said} → Good s₀ → s₀ .mem .used ≡ 0 → HostCalled s₀ l s → Keeps s₀ (countOf l) s
+demand3-heard g z h = demand3 g z (as-called h)

@@ -4,11 +4,11 @@ use mathlib.Core.List.{List, [], _∷_}
 use Prim.Native.Nat.{ℕ, zero, suc, _-_, _<_}
 use native.Mathlib.Omega.{arith}
 use lib.ListN.{length, take}
-use Rattle.rules.specs.Machine.{Kind, cpu, vdp, register, Mem, mem, State, state, cells}
+use Rattle.rules.specs.Machine.{cpu, vdp, register, Mem, mem, State, state, cells}
 use Rattle.rules.specs.Journal.{Store}
 use Rattle.rules.specs.Calls.{Reply, done, refused, left, step, stepStores, stepBack, Report, run}
-use Rattle.rules.specs.Demands.{Good, AllAccepted, forward, Ends, full, cut}
-use Rattle.rules.proofs.Clear.{keep, clear, clearS, take-keep, length-keep, clear-blanked}
+use Rattle.rules.specs.Demands.{Good, forward, Ends, full, cut}
+use Rattle.rules.proofs.Clear.{keep, clearS, take-keep, length-keep, clear-blanked}
 use Rattle.rules.proofs.Steps.{Settled, clearR}
 use Rattle.rules.proofs.Fits.{step-settled, call-back-clear}
 use Rattle.rules.proofs.History.{back-undoes, good-forward}

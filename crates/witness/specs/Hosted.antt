@@ -1,16 +1,19 @@
 -- What a host in C reads off the answer and `out`, as a reply or a report of bench.
 use mathlib.Core.Path.{_≡_}
+use mathlib.Core.List.{List, [], _∷_}
 use Prim.Native.Nat.{ℕ}
 use lib.ListN.{getD}
 use denote.Ref.{RefT, now}
 use denote.Triple.Both.{Both}
 use Rattle.rules.specs.Machine.{State}
+use Rattle.rules.specs.Calls.{run}
 use Rattle.machine.specs.Meaning.{Lent, Parts, Rest, unseenAll, memAfter}
 use Rattle.bench.specs.declared.at.At.{At}
 use Rattle.bench.specs.declared.walk.Reply.{Reply}
 use Rattle.bench.specs.declared.runs.Report.{Report}
-use Rattle.bench.specs.Meaning.{Returned, returned, returnedOf, lentTo}
-use Rattle.export.specs.Meaning.{Numbers, bytesOf, shown, named}
+use Rattle.bench.specs.Meaning.{Returned, returned, returnedOf, standsAt, lentTo, Tells}
+use Rattle.bench.specs.Promised.{Said, stepped, backed, ran}
+use Rattle.export.specs.Meaning.{Numbers, heard, oneStep, oneBack, bytesOf, shown, named}
 
 -- the same parts beside another result
 abbrev pub beside : {A B : Type 0} → (A → B) → Returned A → Returned B
@@ -37,6 +40,22 @@ RepliesIn D = HandsBack (λ s x. D s (asReply x))
 
 abbrev pub ReportsIn : (State → Returned Report → Type 0) → (Parts → Parts) → ℕ → ℕ → ℕ → Lent → Type 0
 ReportsIn D = HandsBack (λ s x. D s (asReport x))
+
+-- ---- demand 3: any sequence of calls for C, each known by its contract; what they hand back is counted as what bench's calls say
+
+abbrev pub standsIn : Returned Numbers → State
+standsIn x = standsAt x (atOf (x .result))
+
+pub data HostCalled (s₀ : State) : List Said → State → Type 0 where
+  no-call : HostCalled s₀ [] s₀
+  then-step : {l : List Said} {s : State} {x : Returned Numbers} → HostCalled s₀ l s → Tells heard oneStep s x
+      → HostCalled s₀ (stepped (asReply x .result) ∷ l) (standsIn x)
+  then-back : {l : List Said} {s : State} {x : Returned Numbers} → HostCalled s₀ l s → Tells heard oneBack s x
+      → HostCalled s₀ (backed (asReply x .result) ∷ l) (standsIn x)
+  then-run : {l : List Said} {s : State} (n : ℕ) {x : Returned Numbers} → HostCalled s₀ l s → Tells heard (run n) s x
+      → HostCalled s₀ (ran (asReport x .result) ∷ l) (standsIn x)
+
+-- ---- the viewer
 
 -- the bytes that an offset and a length name are those that the rules show
 abbrev pub Views : ℕ → Lent → Lent → ℕ → ℕ → Both (RefT ℕ) (RefT ℕ) → ℕ → Type 0
