@@ -127,7 +127,7 @@ static inline bool keep(struct bench *b, uint32_t kind, uint32_t at, uint8_t old
     return true;
 }
 
-/* "For one store, 4, 5, 9 or 13 comes before 10." */
+/* "For one store, 4, 5, .. or 13 comes before 10." */
 static inline bool store_cpu(struct bench *b, uint32_t at, uint32_t byte)
 {
     if (at > PAD_LAST)
@@ -175,8 +175,7 @@ static inline bool store_condition(struct bench *b, bool set)
     return store_status(b, set ? rest | CONDITION : rest);
 }
 
-/* "Screen position: YPT times 32 plus XPT modulo 32."
-   At most 8,191, so answer 9 has no occasion. */
+/* "Screen position: YPT times 32 plus XPT modulo 32." */
 static inline uint32_t screen_position(const struct bench *b)
 {
     return b->pad[ROW] * 32u + b->pad[COLUMN] % 32u;

@@ -61,7 +61,6 @@ enum argolythe_answer {
     ARGOLYTHE_OFF_IMAGE = 6,       /* GROM address beyond the image */
     ARGOLYTHE_OFF_STACK = 7,       /* stack pointer out of its area */
     ARGOLYTHE_FORMAT_TOO_LONG = 8, /* a 16,385th format code in one FMT */
-    ARGOLYTHE_OFF_SCREEN = 9,      /* screen position outside VDP RAM */
     ARGOLYTHE_NO_ROOM = 10,        /* no journal word left */
     ARGOLYTHE_WRONG_LENGTH = 11,   /* a lent part has a wrong length, or used exceeds the journal */
     ARGOLYTHE_NO_RECORD = 12,      /* step_back finds no sound record */

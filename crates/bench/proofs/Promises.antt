@@ -3,11 +3,13 @@ use mathlib.Core.Path.{_≡_, refl, _∙_, ap, sym, subst}
 use mathlib.Core.Bool.{Bool, true, false}
 use mathlib.Core.List.{List}
 use Prim.Native.Nat.{ℕ}
+use native.Mathlib.Omega.{arith}
 use Rattle.rules.specs.Machine.{pick, State}
 use Rattle.rules.specs.Answers.{number, wrongLength}
 use Rattle.rules.specs.Calls.{memFits, fits, Reply, done, refused, made, Report, report, run, Find, found, lost, scan, backTo, fitBack, stepBack, Memory, view}
 use Rattle.rules.specs.Demands.{BackCause, wrong-parts, no-record, Demand1, Demand2, Ends}
 use Rattle.rules.proofs.Named.{Answered, named-run}
+use Rattle.rules.proofs.Struck.{listed-not-9, answered-not-9, back-not-9}
 use Rattle.rules.proofs.Replies as replies-of
 use Rattle.rules.proofs.Run as run-of
 use Rattle.bench.specs.declared.at.At.{At}
@@ -85,3 +87,14 @@ stays s = go (memFits (s .mem)) refl (scan (s .mem .used) (s .mem .journal)) ref
 pub step-back-refused : {s : State} {x : Returned walk.Reply} → Tells told backing s x → (x .result .answer ≡ 0 → ⊥)
     → BackCause s (x .result .answer) × (leaves x ≡ s)
 step-back-refused {s = s} e h = subst (StaysAs s) (refuses e h) (stays s)
+
+-- ---- 02, item 8: no call answers 9
+
+pub step-not-9 : {s : State} {x : Returned walk.Reply} → Tells told stepping s x → x .result .answer ≡ 9 → ⊥
+step-not-9 e h = listed-not-9 (demand1 e (λ z. omega arith) .0 .listed) h
+
+pub run-not-9 : (n : ℕ) {s : State} {x : Returned runs.Report} → Tells reported (run n) s x → x .result .answer ≡ 9 → ⊥
+run-not-9 n e h = answered-not-9 (run-listed n e) h
+
+pub step-back-not-9 : {s : State} {x : Returned walk.Reply} → Tells told backing s x → x .result .answer ≡ 9 → ⊥
+step-back-not-9 e h = back-not-9 (step-back-refused e (λ z. omega arith) .0) h

@@ -22,7 +22,8 @@ pub fn show(pad: &mut [u8], vram: &mut [u8], journal: &mut [u32], m: Now, step: 
     ensures { λ r. ⌜ Does (Format.show step b) (Pad pad & Vram vram & Journal journal) m r ⌝ }
 {
     let p = operand::screen::position(pad, m);
-    let drawn = operand::screen::draw(vram, journal, p, p.word, b);
+    let at = p.word as usize;
+    let drawn = machine::vdp::poke_vdp(vram, journal, p, at, b);
     let far = p.word + step;
     let next = number::cursor::wrap_show(far);
     set_cursor(pad, journal, drawn, next)

@@ -12,7 +12,7 @@ use Rattle.rules.specs.Answers as answers
 use Rattle.rules.specs.Calls as calls
 use Rattle.machine.specs.declared.state.Now.{Now}
 use Rattle.machine.specs.declared.answers.Why.{Why}
-use Rattle.machine.specs.declared.answers.Why.the-variants.{Ended, NoSuch, NeedsHost, OffCpu, OffVdp, OffGrom, OffStack, TooLong, OffScreen, NoRoom, WrongLength, NoRecord, OffRegister}
+use Rattle.machine.specs.declared.answers.Why.the-variants.{Ended, NoSuch, NeedsHost, OffCpu, OffVdp, OffGrom, OffStack, TooLong, NoRoom, WrongLength, NoRecord, OffRegister}
 use Rattle.machine.specs.declared.journal.Mark.{Mark}
 use Rattle.machine.specs.declared.memory.Memory.{Memory}
 use Rattle.machine.specs.declared.memory.Memory.the-variants.{Cpu, Vdp, Register}
@@ -28,7 +28,6 @@ whyOf OffVdp = answers.offVdp
 whyOf OffGrom = answers.offGrom
 whyOf OffStack = answers.offStack
 whyOf TooLong = answers.tooLong
-whyOf OffScreen = answers.offScreen
 whyOf NoRoom = answers.noRoom
 whyOf WrongLength = answers.wrongLength
 whyOf NoRecord = answers.noRecord

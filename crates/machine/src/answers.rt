@@ -1,4 +1,4 @@
-// The refusals, once, in 01's order and words, and their numbers. 0 is "done".
+// The refusals, once, in 01's order and words, and their numbers. 0 is "done"; 02, of 9: "don't use the number again".
 ghost use mathlib.Core.Path.{_≡_};
 ghost use Rattle.rules.specs.Answers;
 ghost use Rattle.machine.specs.Meaning.{whyOf};
@@ -20,8 +20,6 @@ pub enum Why {
     OffStack,
     // "a 16,385th format code in one FMT, before it is read"
     TooLong,
-    // "screen position outside VDP RAM"
-    OffScreen,
     // "no journal word left"
     NoRoom,
     // "a lent part has a wrong length, or used exceeds the journal"
@@ -44,7 +42,6 @@ pub fn number(why: Why) -> u8
         Why::OffGrom => 6,
         Why::OffStack => 7,
         Why::TooLong => 8,
-        Why::OffScreen => 9,
         Why::NoRoom => 10,
         Why::WrongLength => 11,
         Why::NoRecord => 12,

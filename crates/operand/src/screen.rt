@@ -1,14 +1,11 @@
 // The screen: the position that row and column name, the byte there, and the character buffer.
-use machine::answers::Why;
 use machine::cells;
 use machine::pad as cpu;
 use machine::state;
 use machine::state::Now;
 use machine::vdp;
-ghost use mathlib.Core.Path.{_≡_};
 ghost use Prim.Native.Nat.{_<_};
 ghost use Rattle.rules.specs.Operands;
-ghost use Rattle.rules.specs.Operands.{onScreen};
 ghost use Rattle.machine.specs.Meaning.{_&_, Does, Gives, IsPad, IsVram, Journal, Pad, Vram};
 
 // The position that row and column name. Also of a machine that has refused it is below 8,192: a sum with a step fits.
@@ -21,30 +18,13 @@ pub fn position(pad: &[u8], m: Now) -> Now
     state::give_word(column, number::cursor::position_of(row.byte, column.byte))
 }
 
-fn on_screen(p: u16) -> bool
-    ensures { λ r. ⌜ r ≡ onScreen p ⌝ }
-{
-    (p as usize) < cells::VDP_REACH
-}
-
-// A screen store: 9 before 10.
-pub fn draw(vram: &mut [u8], journal: &mut [u32], m: Now, p: u16, b: u8) -> Now
-    requires { ⌜ IsVram vram ⌝ }
-    ensures { λ r. ⌜ Does (Operands.draw p b) (Vram vram & Journal journal) m r ⌝ }
-{
-    let tested = state::need(m, on_screen(p), Why::OffScreen);
-    let at = p as usize;
-    vdp::poke_vdp(vram, journal, tested, at, b)
-}
-
 pub fn screen_byte(pad: &[u8], vram: &[u8], m: Now) -> Now
     requires { ⌜ IsPad pad × IsVram vram ⌝ }
     ensures { λ r. ⌜ Gives (r .byte) Operands.screenByte (Pad pad & Vram vram) m r ⌝ }
 {
     let p = position(pad, m);
-    let tested = state::need(p, on_screen(p.word), Why::OffScreen);
     let at = p.word as usize;
-    vdp::peek_vdp(vram, tested, at)
+    vdp::peek_vdp(vram, p, at)
 }
 
 pub fn to_screen(pad: &[u8], vram: &mut [u8], journal: &mut [u32], m: Now, b: u8) -> Now
@@ -52,7 +32,8 @@ pub fn to_screen(pad: &[u8], vram: &mut [u8], journal: &mut [u32], m: Now, b: u8
     ensures { λ r. ⌜ Does (Operands.toScreen b) (Pad pad & Vram vram & Journal journal) m r ⌝ }
 {
     let p = position(pad, m);
-    draw(vram, journal, p, p.word, b)
+    let at = p.word as usize;
+    vdp::poke_vdp(vram, journal, p, at, b)
 }
 
 // The screen byte into the character buffer.

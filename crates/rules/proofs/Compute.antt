@@ -3,7 +3,7 @@ use Rattle.rules.specs.Machine.{_also_, bit}
 use Rattle.rules.specs.Journal.{word, markWord, note, undoTop, undo}
 use Rattle.rules.specs.Rules.{_>>=_, perform, exec, after, valued, actStores, stores, need, nextWord, peekWord}
 use Rattle.rules.specs.Operands.{shortOffset, offset, addIndex, indexed, throughWord, throughByte, popCell, throughPad, named, farCell}
-use Rattle.rules.specs.Operands.{anyCell, reached, operandOf, position, draw, screenByte, toScreen, loadBuffer, refresh, standing, value}
+use Rattle.rules.specs.Operands.{anyCell, reached, operandOf, position, screenByte, toScreen, loadBuffer, refresh, standing, value}
 use Rattle.rules.specs.Operands.{pokeWord, storeValue, echo, result, operandValue, immediate, source}
 use Rattle.rules.specs.Opcodes.{moveClass, classOf}
 use Rattle.rules.specs.Arithmetic.{above, complement, extended, statusByte, compared, withCondition, tested, sum, carries, overflows, sumStatus}
@@ -26,7 +26,7 @@ unfoldable pub everyRule : Unit {0}
 unfolding _also_ bit
     word markWord note undoTop undo
     _>>=_ perform exec after valued actStores stores need nextWord peekWord
-    shortOffset offset addIndex indexed throughWord throughByte popCell throughPad named farCell anyCell reached operandOf position draw screenByte
+    shortOffset offset addIndex indexed throughWord throughByte popCell throughPad named farCell anyCell reached operandOf position screenByte
     toScreen loadBuffer refresh standing value pokeWord storeValue echo result operandValue immediate source
     moveClass classOf
     above complement extended statusByte compared withCondition tested sum carries overflows sumStatus shiftCount arithmetic leftward rightward

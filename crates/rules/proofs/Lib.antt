@@ -11,6 +11,7 @@ pub mod Run
 pub mod Opcodes
 pub mod Named
 pub mod Replies
+pub mod Struck
 pub mod Wrong
 pub mod Compute
 pub mod Cards

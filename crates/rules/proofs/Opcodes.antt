@@ -1,16 +1,16 @@
--- The 256 opcodes by one computed test: those that 1, 2 and 3 stop are exactly 01's lists, and every other has a rule.
-use mathlib.Core.Path.{_≡_, refl, _∙_, ap}
+-- The 256 opcodes by one computed test: those that 1, 2 and 3 stop are exactly 01's lists, and every other has a rule. The table's numbers by another: 1 to 8, 10 to 13.
+use mathlib.Core.Path.{_≡_, refl, _∙_, ap, sym}
 use mathlib.Core.Bool.{Bool, true, false}
 use mathlib.Core.List.{List, [], _∷_, _++_}
 use Prim.Native.Nat.{ℕ, zero, suc, _<_}
 use native.Mathlib.Omega.{arith}
 use native.Mathlib.Decide.{ℕ-discrete}
-use lib.Dec.{eqb, lit<}
+use lib.Dec.{eqb}
 use borrow.Author.Tests.{eqb-true}
 use Rattle.rules.specs.Machine.{pick, _also_, bit}
-use Rattle.rules.specs.Answers.{Why, ended, noSuch, needsHost, offCpu, offVdp, offGrom, offStack, tooLong, offScreen, noRoom, wrongLength, noRecord, offRegister, number}
+use Rattle.rules.specs.Answers.{Why, ended, noSuch, needsHost, offCpu, offVdp, offGrom, offStack, tooLong, noRoom, wrongLength, noRecord, offRegister, number}
 use Rattle.rules.specs.Opcodes.{Class, stops, does, classOf, moveClass}
-use Rattle.rules.proofs.Fits.{both}
+use Rattle.rules.proofs.Fits.{false-true, both}
 
 -- ---- 01's lists
 
@@ -76,18 +76,35 @@ pub opcodes-listed : (op : ℕ) → op < 256 → verdict (classOf op) ≡ listed
 unfolding right
 opcodes-listed op h = eqb-true _ _ (below-at 256 right all-right op h)
 
+-- ---- the numbers of the table
+
+numbers : List ℕ
+numbers = from 1 8 ++ from 10 4
+
+in-table : (why : Why) → among (number why) numbers ≡ true
+unfolding among numbers from
+in-table ended = refl
+in-table noSuch = refl
+in-table needsHost = refl
+in-table offCpu = refl
+in-table offVdp = refl
+in-table offGrom = refl
+in-table offStack = refl
+in-table tooLong = refl
+in-table noRoom = refl
+in-table wrongLength = refl
+in-table noRecord = refl
+in-table offRegister = refl
+
+not-in-table : (n : ℕ) → among n numbers ≡ false → (why : Why) → number why ≡ n → ⊥
+not-in-table n e why h = false-true (sym e ∙ ap (λ (k : ℕ). among k numbers) (sym h) ∙ in-table why)
+
 -- no rule refuses with 0
 pub never-done : (why : Why) → 0 < number why
-never-done ended = lit< tt
-never-done noSuch = lit< tt
-never-done needsHost = lit< tt
-never-done offCpu = lit< tt
-never-done offVdp = lit< tt
-never-done offGrom = lit< tt
-never-done offStack = lit< tt
-never-done tooLong = lit< tt
-never-done offScreen = lit< tt
-never-done noRoom = lit< tt
-never-done wrongLength = lit< tt
-never-done noRecord = lit< tt
-never-done offRegister = lit< tt
+unfolding among numbers from
+never-done why = omega (arith, not-in-table 0 refl why)
+
+-- nor with 9
+pub never-9 : (why : Why) → number why ≡ 9 → ⊥
+unfolding among numbers from
+never-9 = not-in-table 9 refl

@@ -50,7 +50,7 @@ made-store k a b pc m true e false f = none
 made-store k a b pc m false e true f = none
 made-store k a b pc m false e false f = none
 
-made-act : (q : Act) (pc : ℕ) (m : Mem) → Made m (actStores q m) (memOf (perform q pc m))
+pub made-act : (q : Act) (pc : ℕ) (m : Mem) → Made m (actStores q m) (memOf (perform q pc m))
 unfolding perform actStores
 made-act next pc m = made-look (ltb pc (length (m .image))) _ _ _ m
 made-act (grom a) pc m = made-look (ltb a (length (m .image))) _ _ _ m

@@ -2,7 +2,7 @@
 use Prim.Native.Nat.{ℕ}
 use Rattle.rules.specs.Machine.{Kind, upon}
 
--- "No. | Given when". 0, "done", is no refusal, and so has no name here.
+-- "No. | Given when". 0, "done", is no refusal, and so has no name here. 02, of 9: "strike it from the table .. and don't use the number again".
 pub data Why : Type 0 where
   -- "ended: opcode >0B (EXIT); nothing changes, pc stays on it"
   ended : Why
@@ -20,8 +20,6 @@ pub data Why : Type 0 where
   offStack : Why
   -- "a 16,385th format code in one FMT, before it is read"
   tooLong : Why
-  -- "screen position outside VDP RAM"
-  offScreen : Why
   -- "no journal word left"
   noRoom : Why
   -- "a lent part has a wrong length, or used exceeds the journal"
@@ -41,7 +39,6 @@ number offVdp = 5
 number offGrom = 6
 number offStack = 7
 number tooLong = 8
-number offScreen = 9
 number noRoom = 10
 number wrongLength = 11
 number noRecord = 12

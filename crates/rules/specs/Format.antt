@@ -3,10 +3,10 @@ use mathlib.Core.Bool.{Bool, true, false}
 use mathlib.Core.List.{List, [], _∷_}
 use Prim.Native.Nat.{ℕ, zero, suc, _+_, _-_, _*_, _/_, _%_}
 use lib.Dec.{ltb, eqb}
-use Rattle.rules.specs.Machine.{pick, Kind, cpu, upon, subPointer, ypt, xpt}
+use Rattle.rules.specs.Machine.{pick, Kind, cpu, vdp, upon, subPointer, ypt, xpt}
 use Rattle.rules.specs.Answers.{offCpu, tooLong}
 use Rattle.rules.specs.Rules.{Rule, Deed, give, refuse, _>>=_, _>>_, nextByte, nextWord, goto, peek, poke, need}
-use Rattle.rules.specs.Operands.{place, position, draw}
+use Rattle.rules.specs.Operands.{place, position}
 use Rattle.rules.specs.Instructions.{raise}
 
 -- ---- the cursor
@@ -29,7 +29,7 @@ wrapSkip p = pick (ltb p 0x300) p (p - 0x300)
 unfoldable pub show : ℕ → ℕ → Deed
 show step b = do
   p ← position
-  draw p b
+  poke vdp p b
   setCursor (wrapShow (p + step))
 
 -- "A skip .. then stores row and column likewise."

@@ -2,8 +2,8 @@
 use mathlib.Core.Bool.{Bool, true, false}
 use Prim.Native.Nat.{ℕ, _+_, _-_, _*_, _%_}
 use lib.Dec.{ltb, leb, eqb}
-use Rattle.rules.specs.Machine.{pick, _also_, bit, Kind, cpu, vdp, upon, size, reach, joined, highByte, lowByte, dataPointer, status, buffer, ypt, xpt}
-use Rattle.rules.specs.Answers.{outside, offStack, offScreen}
+use Rattle.rules.specs.Machine.{pick, _also_, bit, Kind, cpu, vdp, upon, reach, joined, highByte, lowByte, dataPointer, status, buffer, ypt, xpt}
+use Rattle.rules.specs.Answers.{outside, offStack}
 use Rattle.rules.specs.Rules.{Rule, Deed, give, _>>=_, _>>_, nextByte, nextWord, peek, peekWord, poke, need}
 
 -- "From >80 on, bit 0 means word": true for a word, false for a byte
@@ -128,27 +128,17 @@ position = do
   x ← peek cpu xpt
   give (y * 32 + x % 32)
 
-abbrev pub onScreen : ℕ → Bool
-onScreen p = ltb p (size vdp)
-
--- a screen store: 9 first
-unfoldable pub draw : ℕ → ℕ → Deed
-draw p b = do
-  need (onScreen p) offScreen
-  poke vdp p b
-
 -- the screen byte at the position
 unfoldable pub screenByte : Rule ℕ
 screenByte = do
   p ← position
-  need (onScreen p) offScreen
   peek vdp p
 
 -- a byte to the screen at the position
 unfoldable pub toScreen : ℕ → Deed
 toScreen b = do
   p ← position
-  draw p b
+  poke vdp p b
 
 -- ---- reading and storing
 

@@ -62,7 +62,7 @@ then (stopped n m) k = stopped n m
 abbrev pub room : Mem → Bool
 room m = ltb (m .used) (length (m .journal))
 
--- one action on a program address and the memories. "For one store, 4, 5, 9 or 13 comes before 10."
+-- one action on a program address and the memories. "For one store, 4, 5, .. or 13 comes before 10."
 unfoldable pub perform : Act → ℕ → Mem → Out ℕ
 perform next pc m = pick (ltb pc (length (m .image))) (got (getD (m .image) pc 0) (onward pc) m) (stopped (number offGrom) m)
 perform (grom a) pc m = pick (ltb a (length (m .image))) (got (getD (m .image) a 0) pc m) (stopped (number offGrom) m)

@@ -9,12 +9,12 @@ returns : tie.Need-returns
 unfolding show
 returns c =
     let at-wrap-show = c .before .before .before .before .before .before .before in
-    let at-draw = at-wrap-show .before .before .before .before .before .before in
-    let at-position = at-draw .before .before .before in
-    λ _. bind _ (at-position .position .ensures .1 _) (seq (at-draw .draw .ensures _)
+    let at-poke-vdp = at-wrap-show .before .before .before .before .before .before in
+    let at-position = at-poke-vdp .before .before .before .before in
+    λ _. bind _ (at-position .position .ensures .1 _) (seq (at-poke-vdp .poke-vdp .ensures _)
     (via setCursor (at-wrap-show .wrap-show .ensures) (c .before .before .before .before .set-cursor .ensures _)))
 
 pub show-spec : {M : Type 1} → statement M
 show-spec =
-    tie.close (tie.spec (search needs) (search needs) (search needs) (search needs) (search needs) (search needs) (search needs)
+    tie.close (tie.spec (search needs) (search needs) (search needs) (search needs) (search needs) (search needs) (search needs) (search needs)
     (search needs) returns)
