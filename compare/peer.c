@@ -1,5 +1,5 @@
-/* A bench machine for the graphics programming language of document 01.
-   Each rule is quoted, in a comment, in that document's own words. */
+/* A bench machine for the graphics programming language of document 01, as document 02 changes it.
+   Each rule is quoted, in a comment, in their own words. */
 #include "peer.h"
 
 #include <stdbool.h>
@@ -46,8 +46,8 @@ enum {
     BAD_REGISTER = 13
 };
 
-/* "Status": the five flags */
-enum { HIGH = 0x80, GREATER = 0x40, CONDITION = 0x20, CARRY = 0x10, OVERFLOW = 0x08 };
+/* "Status": the five flags, and the parity of 02, item 6 */
+enum { HIGH = 0x80, GREATER = 0x40, CONDITION = 0x20, CARRY = 0x10, OVERFLOW = 0x08, PARITY = 0x04 };
 
 /* "Journal words: kind times 2^30" */
 #define KIND_CPU 0u
@@ -352,7 +352,16 @@ static inline uint32_t status_of_pair(uint32_t left, uint32_t right)
            (left == right ? CONDITION : 0u);
 }
 
-/* "ADD group: status stored, then result." */
+/* 02, item 6: "when the result has an odd number of one bits" */
+static inline bool odd_ones(uint32_t byte)
+{
+    byte ^= byte >> 4;
+    byte ^= byte >> 2;
+    byte ^= byte >> 1;
+    return byte & 1;
+}
+
+/* "ADD group: status stored, then result."  02, item 6: "For word adds .. >04 is always set." */
 static inline bool add(struct bench *b, uint32_t place, uint32_t width, uint32_t left, uint32_t right)
 {
     uint32_t mask = mask_of(width);
@@ -364,6 +373,8 @@ static inline bool add(struct bench *b, uint32_t place, uint32_t width, uint32_t
         status |= CARRY;
     if (~(left ^ right) & (left ^ result) & sign_of(width))
         status |= OVERFLOW;
+    if (width == 2 || odd_ones(result))
+        status |= PARITY;
     return store_status(b, status) && store_result(b, place, width, result);
 }
 

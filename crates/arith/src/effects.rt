@@ -48,7 +48,7 @@ pub enum Effect {
 
 // A sum, with its status.
 fn added(wide: bool, a: u16, b: u16) -> Effect
-    ensures { λ r. ⌜ effectOf r ≡ Arithmetic.added (half wide) a b ⌝ }
+    ensures { λ r. ⌜ effectOf r ≡ Arithmetic.added wide a b ⌝ }
 {
     let status = sums::sum_status(wide, a, b);
     let result = sums::sum(wide, a, b);
@@ -58,7 +58,7 @@ fn added(wide: bool, a: u16, b: u16) -> Effect
 // The two's complement added, not the number taken: the carry differs.
 fn subtracted(wide: bool, a: u16, b: u16) -> Effect
     requires { ⌜ b < span (half wide) ⌝ }
-    ensures { λ r. ⌜ effectOf r ≡ Arithmetic.added (half wide) a (Arithmetic.complement (half wide) b) ⌝ }
+    ensures { λ r. ⌜ effectOf r ≡ Arithmetic.added wide a (Arithmetic.complement (half wide) b) ⌝ }
 {
     added(wide, a, sums::complement(wide, b))
 }

@@ -5,8 +5,9 @@ use mathlib.Core.Bool.{Bool, true, false, not}
 use Prim.Native.Nat.{ℕ, _+_, _-_, _*_, _/_, _%_, _^_, _≤_, _<_}
 use native.Mathlib.Omega.{arith}
 use native.Mathlib.Nat.{le-of-lt, lt-of-lt-of-le, mod-lt, mul-le-mul, mul-le-mul-right, mul-lt-mul-of-pos-left, div-lt-iff-lt-mul, mul-mod-left}
+use lib.Dec.{ltb, eqb}
 use lib.Pow.{pow-pos, pow-add, shr-lt, shl-shr, mod-pow-add, mod-mod-pow}
-use Rattle.rules.specs.Arithmetic.{half, span}
+use Rattle.rules.specs.Arithmetic.{half, span, above, flag, statusByte, compared}
 use Rattle.rules.specs.Machine.{pick}
 
 -- ---- over the width
@@ -28,6 +29,21 @@ byte-of e h = rw e at h
 pub other : (b : Bool) → not b ≡ pick b false true
 other true = refl
 other false = refl
+
+-- ---- over the tests of a status
+
+flag-to : (c : Bool) (n : ℕ) → flag c n ≤ n
+flag-to true n = omega arith
+flag-to false n = omega arith
+
+status-to : (hi gt cond cy ov : Bool) → statusByte hi gt cond cy ov ≤ 0xF8
+unfolding statusByte
+status-to hi gt cond cy ov = omega (arith, flag-to hi 0x80, flag-to gt 0x40, flag-to cond 0x20, flag-to cy 0x10, flag-to ov 0x08)
+
+-- the five bits leave the last three free
+pub compared-to : (h a b : ℕ) (cy ov : Bool) → compared h a b cy ov ≤ 0xF8
+unfolding compared
+compared-to h a b cy ov = status-to (ltb b a) (above h a b) (eqb a b) cy ov
 
 -- ---- over a divisor
 

@@ -139,14 +139,30 @@ pub fn compared(wide: bool, a: u16, b: u16, carry: bool, overflow: bool) -> u8
     status_byte(b < a, above(wide, a, b), a == b, carry, overflow)
 }
 
+// The byte that the listing tested last: a byte's result, or a word's width flag.
+fn tested_last(wide: bool, result: u16) -> u16
+    ensures { λ r. ⌜ r ≡ Arithmetic.testedLast wide result ⌝ }
+{
+    if wide { 1 } else { result }
+}
+
+fn odd_ones(b: u16) -> bool
+    ensures { λ r. ⌜ r ≡ Arithmetic.oddOnes b ⌝ }
+{
+    u16::count_ones(b) % 2 == 1
+}
+
 // The status of a sum.
 pub fn sum_status(wide: bool, a: u16, b: u16) -> u8
-    ensures { λ r. ⌜ r ≡ Arithmetic.sumStatus (Arithmetic.half wide) a b ⌝ }
+    ensures { λ r. ⌜ r ≡ Arithmetic.sumStatus wide a b ⌝ }
 {
     let r = sum(wide, a, b);
     let carry = carries(wide, a, b);
     let overflow = overflows(wide, a, b);
-    compared(wide, r, 0, carry, overflow)
+    let upper = compared(wide, r, 0, carry, overflow);
+    let parity = odd_ones(tested_last(wide, r));
+    let s = upper + flag(parity, 0x04);
+    s
 }
 
 // A status byte with another condition bit.

@@ -1,6 +1,8 @@
 -- The bench cards, by computation over a machine of full size.
 use mathlib.Core.Path.{_≡_, refl}
 use mathlib.Core.Bool.{true}
+use Prim.Native.Nat.{ℕ}
+use Rattle.rules.specs.Arithmetic.{parity}
 use Rattle.rules.specs.Cards.{cards, facts, bufferFacts, everyPasses}
 use Rattle.rules.proofs.Compute.{everyRule}
 
@@ -11,6 +13,11 @@ cards-pass = refl
 pub facts-hold : everyPasses facts ≡ true
 unfolding everyRule
 facts-hold = refl
+
+-- 02, item 6: "For word adds .. >04 is always set", whatever the sum
+pub always-set : (r : ℕ) → parity true r ≡ true
+unfolding everyRule
+always-set r = refl
 
 pub buffer-holds : everyPasses bufferFacts ≡ true
 unfolding everyRule

@@ -1,4 +1,5 @@
 -- Names every rule once: a theorem that computes says `unfolding everyRule`.
+use lib.Count.{onesIn, ones}
 use Rattle.rules.specs.Machine.{_also_, bit}
 use Rattle.rules.specs.Journal.{word, markWord, note, undoTop, undo}
 use Rattle.rules.specs.Rules.{_>>=_, perform, exec, after, valued, actStores, stores, need, nextWord, peekWord}
@@ -6,7 +7,7 @@ use Rattle.rules.specs.Operands.{shortOffset, offset, addIndex, indexed,
 use Rattle.rules.specs.Operands.{anyCell, reached, operandOf, position, screenByte, toScreen, loadBuffer, refresh, standing, value}
 use Rattle.rules.specs.Operands.{pokeWord, storeValue, echo, result, operandValue, immediate, source}
 use Rattle.rules.specs.Opcodes.{moveClass, classOf}
-use Rattle.rules.specs.Arithmetic.{above, complement, extended, statusByte, compared, withCondition, tested, sum, carries, overflows, sumStatus}
+use Rattle.rules.specs.Arithmetic.{above, complement, extended, statusByte, compared, withCondition, tested, sum, carries, overflows, oddOnes, sumStatus}
 use Rattle.rules.specs.Arithmetic.{shiftCount, arithmetic, leftward, rightward, circular, repeated, absolute, inverse, oneEffect, twoEffect}
 use Rattle.rules.specs.Arithmetic.{nextSeed, randomOf}
 use Rattle.rules.specs.Instructions.{setCondition, storeEffect, oneRule, twoRule, testRule, halves, mulRule, divOverflow, divResults, divided, divRule}
@@ -29,7 +30,7 @@ unfolding _also_ bit
     shortOffset offset addIndex indexed throughWord throughByte popCell throughPad named farCell anyCell reached operandOf position screenByte
     toScreen loadBuffer refresh standing value pokeWord storeValue echo result operandValue immediate source
     moveClass classOf
-    above complement extended statusByte compared withCondition tested sum carries overflows sumStatus shiftCount arithmetic leftward rightward
+    above complement extended statusByte compared withCondition tested sum carries overflows ones onesIn oddOnes sumStatus shiftCount arithmetic leftward rightward
     circular repeated absolute inverse oneEffect twoEffect nextSeed randomOf
     setCondition storeEffect oneRule twoRule testRule halves mulRule divOverflow divResults divided divRule exRule raise pushPc popPc pushRule jumpInGroup
     jumpIf branchRule longRule callRule rtnRule rtncRule caseRule fetchRule randRule backRule fill allRule moveLength registerCell moveTarget

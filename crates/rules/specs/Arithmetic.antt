@@ -2,6 +2,7 @@
 use mathlib.Core.Bool.{Bool, true, false}
 use Prim.Native.Nat.{ℕ, _+_, _-_, _*_, _/_, _%_, _^_}
 use lib.Bits.{bitAnd, bitOr, bitXor}
+use lib.Count.{ones}
 use lib.Dec.{ltb, leb, eqb}
 use Rattle.rules.specs.Machine.{pick, _also_, bit}
 use Rattle.rules.specs.Operands.{Width}
@@ -38,7 +39,7 @@ unfoldable pub extended : Width → ℕ → ℕ
 extended w x = pick w x (pick (negative 0x80 x) (x + 0xFF00) x)
 
 -- ---- "Status: >80 logical high (not 0), >40 greater (above 0, signed), >20 condition, >10 carry, >08 overflow. The low three bits are written 0 (*own rule*),
--- except by DIV and where only the condition bit changes."
+-- except by DIV and where only the condition bit changes." 02 adds >04 to a sum's status.
 
 abbrev pub flag : Bool → ℕ → ℕ
 flag c n = pick c n 0
@@ -80,8 +81,22 @@ differ false b = b
 unfoldable pub overflows : ℕ → ℕ → ℕ → Bool
 overflows h a b = differ (negative h a) (negative h (sum h a b)) also differ (negative h b) (negative h (sum h a b))
 
-unfoldable pub sumStatus : ℕ → ℕ → ℕ → ℕ
-sumStatus h a b = compared h (sum h a b) 0 (carries h a b) (overflows h a b)
+-- 02, item 6: "State parity by the count of ones in the result byte"
+unfoldable pub oddOnes : ℕ → Bool
+oddOnes b = eqb (ones b % 2) 1
+
+-- the byte that was tested last: the result, or "For word adds the listing tests the width flag, which is 1, just before"
+abbrev pub testedLast : Width → ℕ → ℕ
+testedLast w r = pick w 1 r
+
+-- "The processor's byte add also sets >04 when the result has an odd number of one bits, and the listing stores it."
+abbrev pub parity : Width → ℕ → Bool
+parity w r = oddOnes (testedLast w r)
+
+-- "Mend this for ADD, SUB and the four increments"
+unfoldable pub sumStatus : Width → ℕ → ℕ → ℕ
+sumStatus w a b =
+    compared (half w) (sum (half w) a b) 0 (carries (half w) a b) (overflows (half w) a b) + flag (parity w (sum (half w) a b)) 0x04
 
 -- ---- "Shifts: low 4 bits of the count, 0 meaning 16." They work on 16 bits, of which a byte's result is the low half.
 
@@ -131,8 +146,8 @@ pub data Effect : Type 0 where
   condition : Bool → Effect
 
 -- "ADD group: status stored, then result."
-abbrev pub added : ℕ → ℕ → ℕ → Effect
-added h a b = both (sumStatus h a b) (sum h a b)
+abbrev pub added : Width → ℕ → ℕ → Effect
+added w a b = both (sumStatus w a b) (sum (half w) a b)
 
 -- "AND, OR, XOR do the same with carry and overflow 0 (*own rule*)."
 abbrev pub logical : ℕ → ℕ → Effect
@@ -146,16 +161,16 @@ oneEffect clr w v = only 0
 -- "CZ (value against 0) .. high, greater, condition (equal), rest 0 (*own rule*)"
 oneEffect cz w v = flags (compared (half w) v 0 false false)
 -- "INC to DECT add 1, -1, 2, -2."
-oneEffect inc w v = added (half w) v 1
-oneEffect dec w v = added (half w) v (complement (half w) 1)
-oneEffect inct w v = added (half w) v 2
-oneEffect dect w v = added (half w) v (complement (half w) 2)
+oneEffect inc w v = added w v 1
+oneEffect dec w v = added w v (complement (half w) 1)
+oneEffect inct w v = added w v 2
+oneEffect dect w v = added w v (complement (half w) 2)
 
 -- a is the destination's value, b the source's
 unfoldable pub twoEffect : Two → Width → ℕ → ℕ → Effect
-twoEffect add w a b = added (half w) a b
+twoEffect add w a b = added w a b
 -- "SUB adds the two's complement: taking 0 gives no carry."
-twoEffect sub w a b = added (half w) a (complement (half w) b)
+twoEffect sub w a b = added w a (complement (half w) b)
 twoEffect and w a b = logical (half w) (bitAnd a b)
 twoEffect or w a b = logical (half w) (bitOr a b)
 twoEffect xor w a b = logical (half w) (bitXor a b)

@@ -107,8 +107,8 @@ cardJ =
 
 abbrev pub cards : List Case
 cards =
-    -- a. "`A20001`, pad 00 = >7F: >80, status >88."
-    card (code 3 0xA20001 0) (pad 0 0x7F ∷ []) 2 3 (pad 0 0x80 ∷ pad status 0x88 ∷ [])
+    -- a. "`A20001`, pad 00 = >7F: >80": 02, "Card a then gives >8C; b and c stand."
+    card (code 3 0xA20001 0) (pad 0 0x7F ∷ []) 2 3 (pad 0 0x80 ∷ pad status 0x8C ∷ [])
     -- b. "`A60080`, >80: 0, status >38."
     ∷ card (code 3 0xA60080 0) (pad 0 0x80 ∷ []) 2 3 (pad 0 0 ∷ pad status 0x38 ∷ [])
     -- c. "`A60000`, 5: 5, status >C0."
@@ -148,6 +148,15 @@ abbrev pub facts : List Case
 facts =
     -- 01's sample for the program
     card (code 4 0x08412AFB 0) (pad subPointer 0 ∷ pad ypt 0x17 ∷ pad xpt 0x1F ∷ []) 8 4 (pad ypt 0 ∷ pad xpt 1 ∷ vram 0 0x2A ∷ vram 0x02FF 0x2A ∷ [])
+    -- 02: ">04 when the result has an odd number of one bits": INC of 0, which gives 1, and of 2, which gives 3
+    ∷ card (code 2 0x9000 0) [] 2 2 (pad 0 1 ∷ pad status 0xC4 ∷ [])
+    ∷ card (code 2 0x9000 0) (pad 0 2 ∷ []) 2 2 (pad 0 3 ∷ pad status 0xC0 ∷ [])
+    -- "For word adds .. >04 is always set": INC, DEC and DECT of 1
+    ∷ card (code 2 0x9100 0) (pad 1 1 ∷ []) 3 2 (pad 1 2 ∷ pad status 0xC4 ∷ [])
+    ∷ card (code 2 0x9300 0) (pad 1 1 ∷ []) 3 2 (pad 1 0 ∷ pad status 0x34 ∷ [])
+    ∷ card (code 2 0x9700 0) (pad 1 1 ∷ []) 3 2 (pad 0 0xFF ∷ pad 1 0xFF ∷ pad status 0x84 ∷ [])
+    -- "01's other status rules stand": AND, of 1 and 1
+    ∷ card (code 3 0xB20001 0) (pad 0 1 ∷ []) 2 3 (pad 0 1 ∷ pad status 0xC0 ∷ [])
     -- "VDP >3FFF as byte passes, as word 5"
     ∷ card (code 4 0x86AF3FFF 0) (vram 0x3FFF 1 ∷ []) 1 4 (vram 0x3FFF 0 ∷ [])
     ∷ refuses (code 4 0x87AF3FFF 0) [] 5
