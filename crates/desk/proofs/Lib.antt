@@ -1,1 +1,6 @@
+pub mod Cut
+pub mod Front
 pub mod Laws
+pub mod Promises
+pub mod Samples
+pub mod Telling

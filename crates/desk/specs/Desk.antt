@@ -1,12 +1,14 @@
 -- What a line does to the machine on the desk, and what it prints: "The program reads standard input, tabbed lines".
-use mathlib.Core.Bool.{Bool, true, false}
-use mathlib.Core.List.{List, []}
-use Prim.Native.Nat.{ℕ}
+use mathlib.Core.Bool.{Bool, true, false, cond}
+use mathlib.Core.List.{List, [], _∷_, _++_}
+use Prim.Native.Nat.{ℕ, suc}
+use lib.Dec.{leb, eqb}
+use lib.ListN.{length, replicate}
 use Rattle.rules.specs.Machine.{Mem, mem, State, state}
 use Rattle.rules.specs.Calls.{Report, run}
 use Rattle.lines.specs.Digits.{laid}
 use Rattle.lines.specs.Shown.{badLine, runLines}
-use Rattle.lines.specs.Lines.{Part, grom, pad, vdp, reg, Line, sets, jumps, runs, bad}
+use Rattle.lines.specs.Lines.{Part, grom, pad, vdp, reg, size, Line, sets, jumps, runs, bad, lineOf}
 
 -- the same machine with other memories
 abbrev pub remade : (Mem → Mem) → State → State
@@ -44,3 +46,40 @@ says (sets p at bs) = true
 says (jumps n) = true
 says (runs n) = true
 says bad = false
+
+-- ---- a whole input
+
+abbrev pub lineFeed : ℕ
+lineFeed = 0x0A
+
+-- a character put before the first of some lines
+abbrev pub onto : ℕ → List (List ℕ) → List (List ℕ)
+onto c [] = (c ∷ []) ∷ []
+onto c (l ∷ ls) = (c ∷ l) ∷ ls
+
+-- a text in lines: each ends at a line feed, and the last may lack it
+unfoldable pub cut : List ℕ → List (List ℕ)
+cut [] = []
+cut (c ∷ cs) = cond (eqb c lineFeed) ([] ∷ cut cs) (onto c (cut cs))
+
+-- as long as a `grom` line for the whole image
+abbrev pub longest : ℕ
+longest = 65546
+
+-- what a line says: nothing where it is longer
+unfoldable pub heard : List ℕ → Line
+heard l = cond (leb (length l) longest) (lineOf l) bad
+
+-- what lines print from the k-th on, each obeyed in the state that the one before has left: "`bad`, its number from 1, stop"
+unfoldable pub told : ℕ → List (List ℕ) → State → List ℕ
+told k [] s = []
+told k (l ∷ ls) s = printed k (heard l) s ++ cond (says (heard l)) (told (suc k) ls (obeyed (heard l) s)) []
+
+-- "Its image is 32,768 zeros, its journal 16,384 words; all not set is 0."
+abbrev pub start : State
+start =
+    state 0 (mem (replicate (size grom) 0) (replicate (size pad) 0) (replicate (size vdp) 0) (replicate (size reg) 0) (replicate 16384 0) 0)
+
+-- "The program reads standard input", and what it prints
+unfoldable pub whole : List ℕ → List ℕ
+whole text = told 1 (cut text) start

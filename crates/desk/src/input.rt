@@ -1,73 +1,66 @@
-// Lines of an input, chunk by chunk.
-use lines::print;
-ghost use Prim.Native.Nat.{_≤_};
-ghost use lib.ListN.{length};
-ghost use Rattle.desk.specs.Meaning.{Within};
+// An input, piece by piece: its lines, found in what was read of it, and more of it read.
+ghost use mathlib.Core.Path.{_≡_};
+ghost use Prim.Native.Nat.{_-_, _<_, _≤_};
+ghost use lib.ListN.{length, take, drop};
+ghost use Rattle.desk.specs.Meaning.{Finds, Grows};
 
-// What is left of a chunk.
-pub struct Span {
-    pub at: usize,
-    pub have: usize,
+// A `grom` line for the whole image has so many bytes. No longer line says anything.
+pub(crate) const LONGEST: usize = 65546;
+
+// Where a line ends, and where the next one begins; or a part of a line, of which more is to come.
+pub enum Found {
+    Line { end: usize, next: usize },
+    Part,
 }
 
-// A line's length, with what is left of the chunk; `none` where the input has ended.
-pub struct Input {
-    pub rest: Span,
-    pub len: usize,
-    pub none: bool,
-}
-
-// What is left of the chunk, or the next chunk; nothing where the input has ended.
-fn refill(fd: i32, chunk: &mut [u8], rest: Span) -> Span
-    requires { ⌜ Within (length (now chunk)) rest ⌝ }
-    ensures { λ r. ⌜ Within (length (now (chunk .exit))) r ⌝ }
+// The line that begins at a place. It ends at its line feed; the last one of an input that has `ended` may lack it. One that is too long to say anything is
+// taken as it stands, whatever is to come.
+pub fn line_at(text: &[u8], at: usize, ended: bool) -> Found
+    requires { ⌜ at ≤ length (now text) ⌝ }
+    ensures { λ r. ⌜ Finds ended (now (text .entry)) at r ⌝ }
 {
-    if rest.at < rest.have {
-        return rest;
+    let have = text.len();
+    let end = bytes::scan::find(text, at, have, 10);
+    if end < have {
+        let next = end + 1;
+        return Found::Line { end, next };
     }
-    let got = libc::read(fd, chunk);
-    Span {
-        at: 0,
-        have: io::count(got, chunk),
+    let size = end - at;
+    if LONGEST < size {
+        return Found::Line { end, next: end };
     }
+    if size == 0 {
+        return Found::Part;
+    }
+    if ended {
+        return Found::Line { end, next: end };
+    }
+    Found::Part
 }
 
-// The next line, without its line feed; the last one may lack it. Each turn takes what the chunk has of it. One that is longer than its buffer says
-// nothing, so it counts as an empty one.
-pub fn next_line(fd: i32, chunk: &mut [u8], from: Span, line: &mut [u8]) -> Input
-    requires { ⌜ Within (length (now chunk)) from ⌝ }
-    ensures { λ r. ⌜ Within (length (now (chunk .exit))) (r .rest) × (r .len ≤ length (now (line .exit))) ⌝ }
+// The bytes from a place on, moved to the front; the answer is how many they are.
+fn to_front(text: &mut [u8], from: usize, have: usize) -> usize
+    requires { ⌜ (from ≤ have) × (have ≤ length (now text)) ⌝ }
+    ensures { λ r. ⌜ (r ≡ have - from) × (take r (now (text .exit)) ≡ drop from (take have (now (text .entry)))) ⌝ }
 {
-    let mut rest = from;
-    let mut len: usize = 0;
-    loop {
-        rest = refill(fd, chunk, rest);
-        let at = rest.at;
-        let have = rest.have;
-        if at == have {
-            return Input {
-                rest,
-                len,
-                none: len == 0,
-            };
-        }
-        let end = bytes::scan::find(chunk, at, have, 10);
-        rest.at = end;
-        if line.len() - len < end - at {
-            return Input {
-                rest,
-                len: 0,
-                none: false,
-            };
-        }
-        len = print::put_word(line, len, &chunk[at..end]);
-        if end < have {
-            rest.at = end + 1;
-            return Input {
-                rest,
-                len,
-                none: false,
-            };
-        }
+    let kept = have - from;
+    let mut i = 0;
+    while i < kept {
+        let cell = from + i;
+        text[i] = text[cell];
+        i += 1;
     }
+    kept
+}
+
+// What has not been obeyed is moved to the front, and more is read after it. The answer is how many bytes there are then: no more than before where the
+// input has ended, since there is room for one.
+pub fn refill(fd: i32, text: &mut [u8], from: usize, have: usize) -> usize
+    requires { ⌜ (from ≤ have) × (have ≤ length (now text)) × (have - from < length (now text)) ⌝ }
+    ensures { λ r. ⌜ Grows (drop from (take have (now (text .entry)))) (now (text .exit)) r ⌝ }
+{
+    let kept = to_front(text, from, have);
+    let room = &mut text[kept..];
+    let got = libc::read(fd, room);
+    kept + io::count(got, room)
 }

@@ -1,4 +1,5 @@
 // A line obeyed.
+use crate::input::LONGEST;
 use crate::show;
 use bench::at::At;
 use lines::print;
@@ -10,7 +11,9 @@ ghost use Prim.Native.Nat.{ℕ, _+_, _*_, _≤_};
 ghost use lib.ListN.{length};
 ghost use Rattle.machine.specs.Meaning.{_&_, Image, Pad, Vram, Regs, Journal};
 ghost use Rattle.lines.specs.Digits.{laid, bytesAt};
-ghost use Rattle.lines.specs.Lines.{runs, lineOf};
+ghost use Rattle.lines.specs.Lines.{runs};
+ghost use Rattle.lines.specs.Meaning.{Says};
+ghost use Rattle.desk.specs.Desk.{heard};
 ghost use Rattle.desk.specs.Meaning.{outset, quietly, Obeys};
 
 // Where the machine stands after a line, and how many bytes are to be printed; `good` where the line says something.
@@ -72,6 +75,16 @@ fn run_shown(
     }
 }
 
+// What a line says: nothing where it is too long.
+fn line_of(text: &[u8]) -> Line
+    ensures { λ r. ⌜ Says (now (text .entry)) r (heard (now (text .entry))) ⌝ }
+{
+    if LONGEST < text.len() {
+        return Line::Bad;
+    }
+    read::read_line(text)
+}
+
 // A line obeyed: what it does to the machine, and what is to be printed. `number` is the line's.
 pub fn obey(
     text: &[u8],
@@ -84,9 +97,9 @@ pub fn obey(
     at: At,
     out: &mut [u8; 216502],
 ) -> Stand
-    ensures { λ r. ⌜ Obeys number (lineOf (now (text .entry))) (Image image & Pad pad & Vram vram & Regs regs & Journal journal) out at r ⌝ }
+    ensures { λ r. ⌜ Obeys number (heard (now (text .entry))) (Image image & Pad pad & Vram vram & Regs regs & Journal journal) out at r ⌝ }
 {
-    let line = read::read_line(text);
+    let line = line_of(text);
     match line {
         Line::Grom(b) => {
             lay(text, b, image);

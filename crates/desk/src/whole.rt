@@ -1,74 +1,110 @@
-// An input obeyed, line by line.
+// An input read, obeyed, and what it prints written.
 use crate::input;
 use crate::obey;
-use crate::obey::Stand;
 use crate::show;
-use bench::at::At;
+use crate::turns;
+use crate::turns::Place;
+use crate::turns::Turn;
+ghost use mathlib.Core.Path.{_≡_};
+ghost use lib.ListN.{length};
+ghost use Rattle.machine.specs.Meaning.{_&_, Image, Pad, Vram, Regs, Journal};
+ghost use Rattle.bench.specs.Meaning.{stateAt};
+ghost use Rattle.desk.specs.Desk.{start};
+ghost use Rattle.desk.specs.Meaning.{Numbered, outset, Speaks};
 
-// A line obeyed, and what it prints written.
-fn obey_aloud(
+// The lines of a text obeyed, as far as it has whole ones, and what they print written.
+fn obey_text(
     text: &[u8],
-    number: u64,
-    image: &mut [u8; 32768],
-    pad: &mut [u8; 256],
-    vram: &mut [u8; 16384],
-    regs: &mut [u8; 8],
-    journal: &mut [u32; 16384],
-    at: At,
-    out: &mut [u8; 216502],
-) -> Stand {
-    let stand = obey::obey(text, number, image, pad, vram, regs, journal, at, out);
-    show::write_text(out, stand.count);
-    stand
-}
-
-// Each line obeyed as it comes, up to the first that says nothing.
-fn obey_lines(
-    fd: i32,
-    chunk: &mut [u8],
-    line: &mut [u8],
+    ended: bool,
+    first: Place,
     image: &mut [u8; 32768],
     pad: &mut [u8; 256],
     vram: &mut [u8; 16384],
     regs: &mut [u8; 8],
     journal: &mut [u32; 16384],
     out: &mut [u8; 216502],
-) {
-    let mut span = input::Span { at: 0, have: 0 };
-    let mut at = obey::first();
-    let mut number: u64 = 0;
-    while number < u64::MAX {
-        let next = input::next_line(fd, chunk, span, line);
-        if next.none {
-            return;
+) -> Turn
+    requires { ⌜ Numbered (now text) first ⌝ }
+    ensures { λ r. ⌜ Speaks ended text first (Image image & Pad pad & Vram vram & Regs regs & Journal journal) r ⌝ }
+{
+    let mut place = first;
+    loop {
+        let turn = turns::next_text(text, ended, place, image, pad, vram, regs, journal, out);
+        show::write_text(out, turn.count);
+        if turn.count == 0 {
+            return turn;
         }
-        number += 1;
-        span = next.rest;
-        let len = next.len;
-        let text = &line[..len];
-        let stand = obey_aloud(text, number, image, pad, vram, regs, journal, at, out);
-        if !stand.good {
-            return;
+        if !turn.good {
+            return turn;
         }
-        at = stand.at;
+        let after = turn.place;
+        place = after;
     }
 }
 
-// The machine on the desk: an image of 32,768 zeros, a journal of 16,384 words, and all not set is 0. The longest line that says something, a `grom` line
-// for the whole image, has 65,546 bytes.
+// An input, piece by piece. Its lines have numbers up to `LAST` and those of one piece more.
+const LAST: u64 = 18446744073709486068;
+
+fn obey_input(
+    fd: i32,
+    text: &mut [u8],
+    image: &mut [u8; 32768],
+    pad: &mut [u8; 256],
+    vram: &mut [u8; 16384],
+    regs: &mut [u8; 8],
+    journal: &mut [u32; 16384],
+    out: &mut [u8; 216502],
+)
+    requires { ⌜ (length (now text) ≡ 65547) × (stateAt (now image) (now pad) (now vram) (now regs) (now journal) outset ≡ start) ⌝ }
+{
+    let at = obey::first();
+    let mut place = Place {
+        from: 0,
+        number: 0,
+        at,
+    };
+    let mut have: usize = 0;
+    while place.number < LAST {
+        let from = place.from;
+        let kept = have - from;
+        have = input::refill(fd, text, from, have);
+        place.from = 0;
+        let ended = have == kept;
+        let turn = obey_text(
+            &text[..have],
+            ended,
+            place,
+            image,
+            pad,
+            vram,
+            regs,
+            journal,
+            out,
+        );
+        if ended {
+            return;
+        }
+        if !turn.good {
+            return;
+        }
+        let after = turn.place;
+        place = after;
+    }
+}
+
+// The machine on the desk: an image of 32,768 zeros, a journal of 16,384 words, and all not set is 0. Of a text with one byte more than the longest line that
+// says something, some line is whole.
 pub fn obey_all(fd: i32) {
-    let mut chunk = [0u8; 4096];
-    let mut line = [0u8; 65546];
+    let mut text = [0u8; 65547];
     let mut image = [0u8; 32768];
     let mut pad = [0u8; 256];
     let mut vram = [0u8; 16384];
     let mut regs = [0u8; 8];
     let mut journal = [0u32; 16384];
     let mut out = [0u8; 216502];
-    obey_lines(
+    obey_input(
         fd,
-        &mut chunk,
-        &mut line,
+        &mut text,
         &mut image,
         &mut pad,
         &mut vram,

@@ -1,5 +1,5 @@
 -- The copies are the parts as they were. The run's report is the rules', and so is what is printed of it.
-use mathlib.Core.Path.{refl, ap}
+use mathlib.Core.Path.{refl}
 use Rattle.desk.proofs.Laws.{ran-told}
 use borrow.Author.Needs.{needs}
 use Rattle.desk.proofs.obey.run_shown.Statement.{statement}

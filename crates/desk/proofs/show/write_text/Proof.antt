@@ -8,11 +8,9 @@ use Rattle.desk.proofs.show.write_text.Tie as tie
 slice-aggregate-write-all : tie.Need-slice-aggregate-write-all
 slice-aggregate-write-all c = sym (length-take-le _ _ (c .before .before .pre))
 
-write-all-requires : tie.Need-write-all-requires
-write-all-requires c κs = search needs
-
 returns : tie.Need-returns
 returns c = search needs
 
 pub write-text-spec : {M : Type 1} → statement M
-write-text-spec = tie.close (tie.spec slice-aggregate-write-all write-all-requires returns)
+write-text-spec =
+    tie.close (tie.spec slice-aggregate-write-all (search needs) returns)
