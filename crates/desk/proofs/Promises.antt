@@ -12,51 +12,53 @@ use Rattle.rules.specs.Machine.{State}
 use Rattle.lines.proofs.Widths.{either}
 use Rattle.desk.specs.Desk.{cut, told, start, whole}
 use Rattle.desk.specs.Meaning.{Follows, Grows, Point, point, toCome, Tells, Said, Spoken}
-use Rattle.desk.specs.Promised as promised
-use Rattle.desk.specs.Promised.{Heard, begun, read, ended, Heeded}
+use Rattle.desk.specs.Promised.{Obeying, begun, reads, ends, tells, Midway}
 
--- what was printed, and what is to come: whatever follows what was read, that is all
-pub so-far : {e : Bool} {input output : List ℕ} {p : Point} → Heard e input output p → (rest : List ℕ) → Follows e rest
+-- whatever follows what was read: all that is printed is what was printed, and what is to come
+pub so-far : {ended : Bool} {input output : List ℕ} {p : Point} → Obeying ended input output p → (rest : List ℕ) → Follows ended rest
     → whole (input ++ rest) ≡ output ++ toCome p rest
 unfolding whole
 so-far begun rest f = refl
-so-far (read {input} {p = p} piece h) rest f = rw (append-assoc input piece rest, append-assoc (p .unread) piece rest) (so-far h (piece ++ rest) tt)
-so-far (ended h) rest f = so-far h rest tt
-so-far (promised.told {output = output} h t) rest f = so-far h rest f ∙ rw (t .is rest f, append-assoc)
+so-far (reads {input} {p = p} piece o) rest f = rw (append-assoc input piece rest, append-assoc (p .left) piece rest) (so-far o (piece ++ rest) tt)
+so-far (ends o) rest f = so-far o rest tt
+so-far (tells o t) rest f = so-far o rest f ∙ rw (t .is rest f, append-assoc)
 
--- at the end of the input all is printed
-pub at-end : {input output : List ℕ} {p : Point} → Heard true input output p → p .unread ≡ [] → whole input ≡ output
+-- where the input has ended and nothing is left, all is printed
+pub at-end : {input output : List ℕ} {p : Point} → Obeying true input output p → p .left ≡ [] → whole input ≡ output
 unfolding cut told
-at-end {input} {output} h e = ap whole (sym (append-nil input)) ∙ so-far h [] refl ∙ rw (e, append-nil)
+at-end {input} o e = ap whole (sym (append-nil input)) ∙ so-far o [] refl ∙ rw (e, append-nil)
 
--- at a line that says nothing too, whatever follows
-pub at-bad : {e : Bool} {input output text : List ℕ} {p q : Point} → Heard e input output p → Tells e p text false q
-    → (rest : List ℕ) → Follows e rest → whole (input ++ rest) ≡ output ++ text
-at-bad h t rest f = so-far h rest f ∙ rw (t .is rest f, append-nil)
+-- and so it is after a line that says nothing, whatever follows
+pub at-bad : {ended : Bool} {input output text : List ℕ} {p q : Point} → Obeying ended input output p → Tells ended p text false q
+    → (rest : List ℕ) → Follows ended rest → whole (input ++ rest) ≡ output ++ text
+at-bad o t rest f = so-far o rest f ∙ rw (t .is rest f, append-nil)
 
--- a text that is handed over whole: what was said of it is all that it prints
+-- a text that is handed over whole: what is said of it is all that it prints
 pub all-said : {text : List ℕ} {q : Point} (good : Bool) (s : Spoken true (point 0 text start) good q) → whole text ≡ s .said .text
-all-said {text} true s = at-end (promised.told (ended (read text begun)) (s .said .tells)) (s .waits refl .none refl)
-all-said {text} false s = ap whole (sym (append-nil text)) ∙ at-bad (ended (read text begun)) (s .said .tells) [] refl
+all-said {text} true s = at-end (tells (ends (reads text begun)) (s .said .tells)) (s .waits refl .none refl)
+all-said {text} false s = ap whole (sym (append-nil text)) ∙ at-bad (ends (reads text begun)) (s .said .tells) [] refl
 
 -- ---- the program's loop
 
--- a piece more: the first bytes of the buffer are what was not obeyed, and that piece
-pub heeded-read : {k n : ℕ} {u buffer : List ℕ} {s : State} → Heeded (point k u s) → Grows u buffer n → Heeded (point k (take n buffer) s)
-heeded-read {k} {n} {u} {buffer} {s} h g =
-    let all : u ++ drop (length u) (take n buffer) ≡ take n buffer =
-    ap (λ (x : List ℕ). x ++ drop (length u) (take n buffer)) (sym (take-take (length u) n buffer (g .more) ∙ g .keeps))
-    ∙ take-append-drop (length u) (take n buffer) in
-    record { input = _; output = _; heard = subst (λ (x : List ℕ). Heard false (h .input ++ drop (length u) (take n buffer)) (h .output) (point k x s)) all (read _ (h .heard)) }
+pub midway-none : {s : State} → s ≡ start → Midway (point 0 [] s)
+midway-none e = rw e (record { input = []; output = []; obeying = begun })
 
-pub heeded-on : {e good : Bool} {p q : Point} → Heeded p → e ≡ false → good ≡ true → Said e p good q → Heeded q
-heeded-on h e g s = record { input = _; output = _; heard = promised.told (h .heard) (rw (e, g) at (s .tells)) }
+-- a piece more is read: the buffer's first bytes are what was left, and that piece
+pub midway-read : {k n : ℕ} {u buffer : List ℕ} {s : State} → Midway (point k u s) → Grows u buffer n → Midway (point k (take n buffer) s)
+midway-read {k} {n} {u} {buffer} {s} h g =
+    let piece : List ℕ = drop (length u) (take n buffer) in
+    let both : u ++ piece ≡ take n buffer =
+    ap (λ (x : List ℕ). x ++ piece) (sym (take-take (length u) n buffer (g .more) ∙ g .keeps)) ∙ take-append-drop (length u) (take n buffer) in
+    record {
+      input = h .input ++ piece;
+      output = h .output;
+      obeying = subst (λ (x : List ℕ). Obeying false (h .input ++ piece) (h .output) (point k x s)) both (reads piece (h .obeying));
+    }
 
--- each turn of it obeys a line, or keeps more than before
+pub midway-on : {ended good : Bool} {p q : Point} → Midway p → ended ≡ false → good ≡ true → Said ended p good q → Midway q
+midway-on h e g s = record { input = h .input; output = h .output ++ s .text; obeying = tells (h .obeying) (rw (e, g) at (s .tells)) }
+
+-- each turn of it obeys a line, or leaves more than the one before
 pub less : (last k k₁ kept n from : ℕ) → k < last → k ≤ k₁ → (k₁ ≡ k → from ≡ 0) → kept < n → n ≤ 65547
     → (last - k₁) * 65548 + (65547 - (n - from)) < (last - k) * 65548 + (65547 - kept)
 less last k k₁ kept n from h l s g b = ⊎-elim (λ m. omega arith) (λ m. omega (arith, s (omega arith))) (either k k₁)
-
--- before the first
-pub heeded-none : {s : State} → s ≡ start → Heeded (point 0 [] s)
-heeded-none e = rw e (record { input = []; output = []; heard = begun })

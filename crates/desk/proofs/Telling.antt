@@ -58,9 +58,9 @@ tells-line {k = k} {s = s} h o =
 
 -- ---- a turn
 
-pub turned-none : {ended : Bool} {p q : Point} {buffer : List ℕ} {at : Place} → Tells ended p [] true q → Waits ended (q .unread)
+pub turned-none : {ended : Bool} {p q : Point} {buffer : List ℕ} {at : Place} → Tells ended p [] true q → Waits ended (q .left)
     → Turned ended p q buffer (record { place = at; count = 0; good = true })
-turned-none t w = record { tells = t; fits = omega arith; waits = λ _. (w, refl); moves = λ n. absurd (n refl) }
+turned-none t w = record { tells = t; fits = omega arith; waits = λ _. w; moves = λ n. absurd (n refl) }
 
 pub turned-some : {ended good : Bool} {p m q : Point} {buffer : List ℕ} {count : ℕ} {at : Place} → Tells ended p [] true m
     → Tells ended m (take count buffer) good q → count ≤ length buffer → (count ≡ 0 → ⊥) → p .lines < q .lines
@@ -77,7 +77,7 @@ module _ {ended : Bool} {p m q : Point} {buffer : List ℕ} {r : Turn} (s : Said
   said-on = record { text = s .text ++ take (r .count) buffer; tells = tells-then (s .tells) (t .tells) }
 
   pub spoken-all : r .count ≡ 0 → Spoken ended p (r .good) q
-  spoken-all e = record { said = said-on; waits = λ _. t .waits e .0 }
+  spoken-all e = record { said = said-on; waits = λ _. t .waits e }
 
   pub spoken-bad : r .good ≡ false → Spoken ended p (r .good) q
   spoken-bad f = record { said = said-on; waits = λ e. never e f }

@@ -13,7 +13,7 @@ use Rattle.bench.specs.declared.at.At.{At}
 use Rattle.bench.specs.declared.runs.Report.{Report}
 use Rattle.lines.specs.Lines as lines
 use Rattle.lines.specs.Shown.{runLines, Front}
-use Rattle.desk.specs.Desk.{obeyed, printed, says, lineFeed, cut, longest, told, whole}
+use Rattle.desk.specs.Desk.{obeyed, printed, says, lineFeed, cut, longest, told}
 use Rattle.desk.specs.declared.input.Found.{Found}
 use Rattle.desk.specs.declared.input.Found.the-variants.{Line, Part}
 use Rattle.desk.specs.declared.obey.Stand.{Stand}
@@ -83,31 +83,31 @@ pub record Grows (text buffer : List ℕ) (count : ℕ) : Type 0 where
 
 -- ---- an input obeyed
 
--- so many lines were obeyed, a text was read and not obeyed, and the machine is in a state
+-- so many lines were obeyed, of what was read a text is left, and the machine is in a state
 pub record Point : Type 0 where
   pub lines : ℕ
-  pub unread : List ℕ
+  pub left : List ℕ
   pub state : State
 
 abbrev pub point : ℕ → List ℕ → State → Point
-point k u s = record { lines = k; unread = u; state = s }
+point k u s = record { lines = k; left = u; state = s }
 
 -- what is printed from there on, where `rest` is still to be read
 abbrev pub toCome : Point → List ℕ → List ℕ
-toCome p rest = told (suc (p .lines)) (cut (p .unread ++ rest)) (p .state)
+toCome p rest = told (suc (p .lines)) (cut (p .left ++ rest)) (p .state)
 
 -- from one point to another a text is printed: whatever follows, it is that text and what is to come; nothing more after a line that says nothing
 pub record Tells (ended : Bool) (p : Point) (text : List ℕ) (good : Bool) (q : Point) : Type 0 where
   pub is : (rest : List ℕ) → Follows ended rest → toCome p rest ≡ text ++ cond good (toCome q rest) []
 
--- a place in a text that lies after another
+-- a place in a text that lies after another: no more lines than bytes are between them, and none where no line is
 pub record Onward (text : List ℕ) (p q : Place) : Type 0 where
   pub within : q .from ≤ length text
   pub lines : p .number ≤ q .number
   pub bytes : q .number + p .from ≤ p .number + q .from
   pub still : q .number ≡ p .number → q .from ≡ p .from
 
--- it lies within the text, whose lines can be numbered
+-- it lies within the text, and the text's lines can be numbered by 64 bits
 abbrev pub Numbered : List ℕ → Place → Type 0
 Numbered text p = (p .from ≤ length text) × (p .number + length text ≤ p .from + 18446744073709551615)
 
@@ -115,7 +115,7 @@ Numbered text p = (p .from ≤ length text) × (p .number + length text ≤ p .f
 pub record Turned (ended : Bool) (p q : Point) (buffer : List ℕ) (r : Turn) : Type 0 where
   pub tells : Tells ended p (take (r .count) buffer) (r .good) q
   pub fits : r .count ≤ length buffer
-  pub waits : r .count ≡ 0 → Waits ended (q .unread) × (r .good ≡ true)
+  pub waits : r .count ≡ 0 → Waits ended (q .left)
   pub moves : (r .count ≡ 0 → ⊥) → p .lines < q .lines
 
 -- some text was printed
@@ -126,7 +126,7 @@ pub record Said (ended : Bool) (p : Point) (good : Bool) (q : Point) : Type 0 wh
 -- up to where no line is whole
 pub record Spoken (ended : Bool) (p : Point) (good : Bool) (q : Point) : Type 0 where
   pub said : Said ended p good q
-  pub waits : good ≡ true → Waits ended (q .unread)
+  pub waits : good ≡ true → Waits ended (q .left)
 
 -- as a contract has it: from a place in a text to another, of the parts that are lent
 abbrev pub Between : (Point → Point → Type 0) → List ℕ → Place → (Parts → Parts) → Place → Type 0

@@ -1,20 +1,21 @@
--- What the theorems about a whole input speak of: pieces that are read and turns that print, of which only what a contract tells is known.
+-- What the theorems about a whole input speak of: pieces that are read, and turns, of which is known what their contract tells.
 use mathlib.Core.Bool.{Bool, true, false}
 use mathlib.Core.List.{List, [], _++_}
+use Prim.Native.Nat.{ℕ}
 use Rattle.desk.specs.Desk.{start}
 use Rattle.desk.specs.Meaning.{Point, point, Tells}
-use Prim.Native.Nat.{ℕ}
 
--- whether the input has ended, what was read of it, what was printed, and where that leads
-pub data Heard : Bool → List ℕ → List ℕ → Point → Type 0 where
-  begun : Heard false [] [] (point 0 [] start)
-  read : {input output : List ℕ} {p : Point} (piece : List ℕ) → Heard false input output p
-      → Heard false (input ++ piece) output (point (p .lines) (p .unread ++ piece) (p .state))
-  ended : {input output : List ℕ} {p : Point} → Heard false input output p → Heard true input output p
-  told : {e : Bool} {input output text : List ℕ} {p q : Point} → Heard e input output p → Tells e p text true q → Heard e input (output ++ text) q
+-- whether the input has ended, what was read of it, what was printed, and the point that this leads to
+pub data Obeying : Bool → List ℕ → List ℕ → Point → Type 0 where
+  begun : Obeying false [] [] (point 0 [] start)
+  reads : {input output : List ℕ} {p : Point} (piece : List ℕ) → Obeying false input output p
+      → Obeying false (input ++ piece) output (point (p .lines) (p .left ++ piece) (p .state))
+  ends : {input output : List ℕ} {p : Point} → Obeying false input output p → Obeying true input output p
+  tells : {ended : Bool} {input output text : List ℕ} {p q : Point} → Obeying ended input output p → Tells ended p text true q
+      → Obeying ended input (output ++ text) q
 
 -- in a loop's invariant: some input was read, and some text printed
-pub record Heeded (p : Point) : Type 0 where
+pub record Midway (p : Point) : Type 0 where
   pub input : List ℕ
   pub output : List ℕ
-  pub heard : Heard false input output p
+  pub obeying : Obeying false input output p

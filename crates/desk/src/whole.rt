@@ -42,9 +42,10 @@ fn obey_text(
     }
 }
 
-// An input, piece by piece. Its lines have numbers up to `LAST` and those of one piece more.
-const LAST: u64 = 18446744073709486068;
+// A proved loop has to end, and nothing says that an input does: no piece is read after so many lines. Those of one piece more can be numbered.
+const LAST: u64 = u64::MAX - 65547;
 
+// An input, piece by piece.
 fn obey_input(
     fd: i32,
     text: &mut [u8],

@@ -7,9 +7,9 @@ use lib.Seq.{length-take-le}
 use borrow.Author.Tests.{eqb-false, not-false}
 use Rattle.bench.specs.Meaning.{stateAt}
 use Rattle.desk.specs.Meaning.{point}
-use Rattle.desk.specs.Promised.{Heeded}
+use Rattle.desk.specs.Promised.{Midway}
 use Rattle.desk.proofs.Front.{kept-size, grown-size}
-use Rattle.desk.proofs.Promises.{heeded-none, heeded-read, heeded-on, less}
+use Rattle.desk.proofs.Promises.{midway-none, midway-read, midway-on, less}
 use borrow.Author.Needs.{needs}
 use Rattle.desk.proofs.whole.obey_input.Statement.{statement}
 use Rattle.desk.proofs.whole.obey_input.Tie as tie
@@ -17,7 +17,7 @@ use Rattle.desk.proofs.whole.obey_input.Tie as tie
 abbrev Inv-loop : tie.InvT-loop
 Inv-loop fd text₀ image₀ pad₀ vram₀ regs₀ journal₀ out₀ place₀ have₀ text image pad vram regs journal out place have =
     (length text ≡ 65547) × (place .from ≤ have) × (have ≤ length text) × (have - place .from < length text)
-    × Heeded (point (place .number) (drop (place .from) (take have text)) (stateAt image pad vram regs journal (place .at)))
+    × Midway (point (place .number) (drop (place .from) (take have text)) (stateAt image pad vram regs journal (place .at)))
 
 abbrev μ-loop : tie.MeasureT-loop
 μ-loop fd text₀ image₀ pad₀ vram₀ regs₀ journal₀ out₀ place₀ have₀ text image pad vram regs journal out place have =
@@ -25,7 +25,7 @@ abbrev μ-loop : tie.MeasureT-loop
 
 loop-holds : tie.Need-loop-holds Inv-loop μ-loop
 loop-holds c =
-    (c .before .before .pre .0, search needs, search needs, omega (arith, c .before .before .pre .0), heeded-none (rw (c .first .ensures) (c .before .before .pre .1)))
+    (c .before .before .pre .0, search needs, search needs, omega (arith, c .before .before .pre .0), midway-none (rw (c .first .ensures) (c .before .before .pre .1)))
 
 refill-requires : tie.Need-refill-requires Inv-loop μ-loop
 refill-requires c κs = (c .before .before .before .loop .inv .1, c .before .before .before .loop .inv .2, c .before .before .before .loop .inv .3)
@@ -91,7 +91,7 @@ loop-again c =
       past,
       read .ensures .fits,
       omega (arith, long, spoken .waits good .short, left),
-      heeded-on (heeded-read (there .inv .4) (read .ensures)) (c .before .before .before .if2 .left) good (spoken .said),
+      midway-on (midway-read (there .inv .4) (read .ensures)) (c .before .before .before .if2 .left) good (spoken .said),
     )
 
 same-length-3 : tie.Need-same-length-3 Inv-loop μ-loop
