@@ -3,6 +3,7 @@ use mathlib.Core.Path.{refl}
 use Rattle.lines.proofs.Printing.{front}
 use Rattle.lines.proofs.Said.{says-as}
 use Rattle.desk.proofs.Laws.{by-line, done}
+use native.Mathlib.Omega.{arith}
 use borrow.Author.Needs.{needs}
 use Rattle.desk.proofs.obey.obey.Statement.{statement}
 use Rattle.desk.proofs.obey.obey.Tie as tie
@@ -10,22 +11,22 @@ use Rattle.desk.proofs.obey.obey.Tie as tie
 lay-requires : tie.Need-lay-requires
 lay-requires c κs =
     let line = says-as (c .before .before .before .before .line-of .ensures) (c .before .before .line .given .1) in
-    (line .within .digits, search (needs, line .within .bytes))
+    (omega (arith, line .within .digits), search (needs, line .within .bytes))
 
 lay-requires-2 : tie.Need-lay-requires-2
 lay-requires-2 c κs =
     let line = says-as (c .before .before .before .before .line-of .ensures) (c .before .before .line2 .given .1) in
-    (line .within .digits, search (needs, line .within .bytes))
+    (omega (arith, line .within .digits), search (needs, line .within .bytes))
 
 lay-requires-3 : tie.Need-lay-requires-3
 lay-requires-3 c κs =
     let line = says-as (c .before .before .before .before .line-of .ensures) (c .before .before .line3 .given .1) in
-    (line .within .digits, search (needs, line .within .bytes))
+    (omega (arith, line .within .digits), search (needs, line .within .bytes))
 
 lay-requires-4 : tie.Need-lay-requires-4
 lay-requires-4 c κs =
     let line = says-as (c .before .before .before .before .line-of .ensures) (c .before .before .line4 .given .1) in
-    (line .within .digits, search (needs, line .within .bytes))
+    (omega (arith, line .within .digits), search (needs, line .within .bytes))
 
 returns : tie.Need-returns
 returns c =
