@@ -1,3 +1,4 @@
 mod Borne
 mod Unwound
+mod Counted
 mod Heard

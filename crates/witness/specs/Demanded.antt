@@ -6,11 +6,12 @@ use lib.ListN.{length, take}
 use Rattle.rules.specs.Machine.{Kind, State, cells}
 use Rattle.rules.specs.Answers.{number, wrongLength}
 use Rattle.rules.specs.Calls.{fits, done, stepBack, report}
-use Rattle.rules.specs.Demands.{Good, Demand1, BackCause, Demand2, AllAccepted, forward, Ends}
+use Rattle.rules.specs.Demands.{Good, Demand1, BackCause, Demand2, AllAccepted, forward, Ends, Demand3}
 use Rattle.machine.specs.Meaning.{Parts, Rest, unseenAll, memAfter}
 use Rattle.bench.specs.declared.at.At.{At}
 use Rattle.bench.specs.declared.walk.Reply.{Reply}
 use Rattle.bench.specs.declared.runs.Report.{Report}
+use Rattle.witness.specs.declared.Kept.{Kept}
 use Rattle.bench.specs.Meaning.{Returned, returnedOf, standsAt, lentTo, leftBy, leaves, reported}
 
 -- whatever the rest of the machine is
@@ -67,3 +68,13 @@ TakenBack n parts at r =
 
 abbrev pub StandsHome : State → Returned At → Type 0
 StandsHome s x = Home s (standsAt x (x .result))
+
+-- ---- any sequence of calls, from an empty journal on
+
+-- "Setting used to 0 forgets."
+abbrev pub forgetting : ℕ → At
+forgetting pc = record { pc = pc; used = 0 }
+
+-- demand 3, of the steps that were counted
+abbrev pub KeptSteps : State → Returned Kept → Type 0
+KeptSteps s x = Demand3 s (x .result .steps) (standsAt x (x .result .at))

@@ -5,9 +5,13 @@ pub mod hosts;
 use bench::at::At;
 use bench::runs::Report;
 use bench::walk::Reply;
+ghost use mathlib.Core.Path.{_≡_};
+ghost use Prim.Native.Nat.{_-_, _<_};
+ghost use lib.Dec.{eqb};
+ghost use Rattle.rules.specs.Machine.{pick};
 ghost use Rattle.machine.specs.Meaning.{_&_, Image, Journal, Pad, Regs, Vram};
 ghost use Rattle.witness.specs.Demanded;
-ghost use Rattle.witness.specs.Demanded.{Meets, RepliesHome, StandsHome, TakenBack};
+ghost use Rattle.witness.specs.Demanded.{Meets, RepliesHome, StandsHome, TakenBack, KeptSteps, forgetting};
 
 // A step meets demand 1 or demand 2.
 pub fn step(
@@ -106,4 +110,53 @@ pub fn run_and_back(
     let r = bench::runs::run(image, pad, vram, regs, journal, at, n);
     let there = r.at;
     take_back(pad, vram, regs, journal, there, r.steps)
+}
+
+// How many accepted steps are not taken back, and where the machine stands.
+pub struct Kept {
+    pub steps: u64,
+    pub at: At,
+}
+
+// One step less where a step back was done.
+fn fewer(steps: u64, answer: u8) -> u64
+    requires { ⌜ (answer ≡ 0 → 0 < steps) ⌝ }
+    ensures { λ r. ⌜ r ≡ pick (eqb answer 0) (steps - 1) steps ⌝ }
+{
+    if answer == 0 { steps - 1 } else { steps }
+}
+
+// Any sequence of calls, from an empty journal on: 0 stands for a step back, any other n for a run of n. The steps kept are counted by the answers.
+pub fn make_calls(
+    image: &[u8],
+    pad: &mut [u8],
+    vram: &mut [u8],
+    regs: &mut [u8],
+    journal: &mut [u32],
+    pc: u16,
+    calls: &[u32],
+) -> Kept
+    ensures { λ r. ⌜ Meets KeptSteps (Image image & Pad pad & Vram vram & Regs regs & Journal journal) (forgetting pc) r ⌝ }
+{
+    let mut here = At { pc, used: 0 };
+    let mut kept: u64 = 0;
+    let mut i: usize = 0;
+    while i < calls.len() {
+        let n = calls[i];
+        if n == 0 {
+            let b = bench::walk::step_back(pad, vram, regs, journal, here);
+            here = b.at;
+            kept = fewer(kept, b.answer);
+        } else {
+            let r = bench::runs::run(image, pad, vram, regs, journal, here, n);
+            let made = r.steps as u64;
+            here = r.at;
+            kept = kept + made;
+        }
+        i = i + 1;
+    }
+    Kept {
+        steps: kept,
+        at: here,
+    }
 }

@@ -1,0 +1,17 @@
+-- By the answer.
+use native.Mathlib.Omega.{arith}
+use borrow.Author.Tests.{eq-eqb, ne-eqb}
+use Rattle.witness.proofs.fewer.Statement.{statement}
+use Rattle.witness.proofs.fewer.Tie as tie
+
+sub-result : tie.Need-sub-result
+sub-result c = omega (arith, c .before .pre (c .if1 .taken))
+
+returns : tie.Need-returns
+returns c = rw (eq-eqb _ _ (c .if1 .taken))
+
+returns-2 : tie.Need-returns-2
+returns-2 c = rw (ne-eqb _ _ (c .if1 .left))
+
+pub fewer-spec : {M : Type 1} → statement M
+fewer-spec = tie.close (tie.spec sub-result returns returns-2)
