@@ -12,12 +12,12 @@ use Rattle.lines.specs.Lines.{Line, sets, jumps, runs, bad}
 use Rattle.lines.specs.Shown.{badLine}
 use Rattle.desk.specs.Desk.{printed, says, heard, told}
 use Rattle.desk.specs.Meaning.{Obeyed, Waits, Heads, Finds, Point, point, Tells, Onward, Turned, Said, Spoken}
-use Rattle.desk.proofs.Cut.{never}
 use Rattle.desk.specs.declared.input.Found.{Found}
 use Rattle.desk.specs.declared.input.Found.the-variants as found
 use Rattle.desk.specs.declared.obey.Stand.{Stand}
 use Rattle.desk.specs.declared.turns.Place.{Place}
 use Rattle.desk.specs.declared.turns.Turn.{Turn}
+use Rattle.desk.proofs.Cut.{never}
 
 -- the line that was found
 pub found-line : {ended : Bool} {text : List ℕ} {at end next : ℕ} {r : Found} → Finds ended text at r → r ≡ found.Line end next → Heads ended text at end next
@@ -44,10 +44,9 @@ quiet-says k (jumps n) s e = refl
 quiet-says k (runs n) s e = refl
 quiet-says k bad s e = let wrong : _≡_ {A = ℕ} 0 1 = cc in absurd (omega arith)
 
-module _ {k : ℕ} {l : Line} {s s₁ : State} {buffer : List ℕ} {r : Stand} (o : Obeyed k l s s₁ buffer r) where
-  -- one that prints nothing says something
-  pub quiet-good : r .count ≡ 0 → r .good ≡ true
-  quiet-good e = o .taken ∙ sym (quiet-says k l s (sym (ap (λ (n : ℕ). take n buffer) e) ∙ o .prints .is))
+-- one that prints nothing says something
+pub quiet-good : {k : ℕ} {l : Line} {s s₁ : State} {buffer : List ℕ} {r : Stand} → Obeyed k l s s₁ buffer r → r .count ≡ 0 → r .good ≡ true
+quiet-good {k} {l} {s} {buffer = buffer} o e = o .taken ∙ sym (quiet-says k l s (sym (ap (λ (n : ℕ). take n buffer) e) ∙ o .prints .is))
 
 pub tells-line : {ended : Bool} {text : List ℕ} {at end next k : ℕ} {s s₁ : State} {buffer : List ℕ} {r : Stand} → Heads ended text at end next
     → Obeyed (k + 1) (heard (take (end - at) (drop at text))) s s₁ buffer r

@@ -100,6 +100,10 @@ toCome p rest = told (suc (p .lines)) (cut (p .left ++ rest)) (p .state)
 pub record Tells (ended : Bool) (p : Point) (text : List ℕ) (good : Bool) (q : Point) : Type 0 where
   pub is : (rest : List ℕ) → Follows ended rest → toCome p rest ≡ text ++ cond good (toCome q rest) []
 
+-- before the first line
+abbrev pub foremost : Place
+foremost = record { from = 0; number = 0; at = outset }
+
 -- a place in a text that lies after another: no more lines than bytes are between them, and none where no line is
 pub record Onward (text : List ℕ) (p q : Place) : Type 0 where
   pub within : q .from ≤ length text

@@ -13,14 +13,13 @@ pub enum Found {
     Part,
 }
 
-// The line that begins at a place. It ends at its line feed; the last one of an input that has `ended` may lack it. One that is too long to say anything is
-// taken as it stands, whatever is to come.
+// The line that begins at a place: the last one of an input that has `ended` may lack its line feed, and one too long to say anything needs none.
 pub fn line_at(text: &[u8], at: usize, ended: bool) -> Found
     requires { ⌜ at ≤ length (now text) ⌝ }
     ensures { λ r. ⌜ Finds ended (now (text .entry)) at r ⌝ }
 {
     let have = text.len();
-    let end = bytes::scan::find(text, at, have, 10);
+    let end = bytes::scan::find(text, at, have, b'\n');
     if end < have {
         let next = end + 1;
         return Found::Line { end, next };
@@ -53,8 +52,7 @@ fn to_front(text: &mut [u8], from: usize, have: usize) -> usize
     kept
 }
 
-// What has not been obeyed is moved to the front, and more is read after it. The answer is how many bytes there are then: no more than before where the
-// input has ended, since there is room for one.
+// What is left is moved to the front, and more is read after it. There is room for a byte: where there are no more than before, the input has ended.
 pub fn refill(fd: i32, text: &mut [u8], from: usize, have: usize) -> usize
     requires { ⌜ (from ≤ have) × (have ≤ length (now text)) × (have - from < length (now text)) ⌝ }
     ensures { λ r. ⌜ Grows (drop from (take have (now (text .entry)))) (now (text .exit)) r ⌝ }

@@ -3,8 +3,9 @@ use crate::input;
 use crate::input::Found;
 use crate::obey;
 use bench::at::At;
+ghost use mathlib.Core.Path.{_≡_};
 ghost use Rattle.machine.specs.Meaning.{_&_, Image, Pad, Vram, Regs, Journal};
-ghost use Rattle.desk.specs.Meaning.{Numbered, Turns};
+ghost use Rattle.desk.specs.Meaning.{foremost, Numbered, Turns};
 
 // A place in a text: where the next line begins, the number of the line before it, and where the machine stands.
 pub struct Place {
@@ -20,12 +21,21 @@ pub struct Turn {
     pub good: bool,
 }
 
-// Lines obeyed from a place on, up to and with the first that prints something. Where none does, no byte is printed, and no whole line is left. A line that
-// says nothing prints something, and is the last.
+// Before the first line.
+pub fn first() -> Place
+    ensures { λ r. ⌜ r ≡ foremost ⌝ }
+{
+    let from = 0;
+    let number = 0;
+    let at = obey::first();
+    Place { from, number, at }
+}
+
+// Lines obeyed from a place on, up to and with the first that prints something: where no byte is printed, no whole line is left.
 pub fn next_text(
     text: &[u8],
     ended: bool,
-    first: Place,
+    from: Place,
     image: &mut [u8; 32768],
     pad: &mut [u8; 256],
     vram: &mut [u8; 16384],
@@ -33,28 +43,23 @@ pub fn next_text(
     journal: &mut [u32; 16384],
     out: &mut [u8; 216502],
 ) -> Turn
-    requires { ⌜ Numbered (now text) first ⌝ }
-    ensures { λ r. ⌜ Turns ended text first (Image image & Pad pad & Vram vram & Regs regs & Journal journal) out r ⌝ }
+    requires { ⌜ Numbered (now text) from ⌝ }
+    ensures { λ r. ⌜ Turns ended text from (Image image & Pad pad & Vram vram & Regs regs & Journal journal) out r ⌝ }
 {
-    let mut place = first;
+    let mut place = from;
     loop {
-        let from = place.from;
-        let Found::Line { end, next } = input::line_at(text, from, ended) else {
-            return Turn {
-                place,
-                count: 0,
-                good: true,
-            };
+        let at = place.from;
+        let Found::Line { end, next } = input::line_at(text, at, ended) else {
+            let count = 0;
+            let good = true;
+            return Turn { place, count, good };
         };
         let number = place.number + 1;
-        let line = &text[from..end];
+        let line = &text[at..end];
         let stand = obey::obey(line, number, image, pad, vram, regs, journal, place.at, out);
         let at = stand.at;
-        place = Place {
-            from: next,
-            number,
-            at,
-        };
+        let from = next;
+        place = Place { from, number, at };
         let count = stand.count;
         if count != 0 {
             let good = stand.good;

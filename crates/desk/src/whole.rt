@@ -1,6 +1,5 @@
 // An input read, obeyed, and what it prints written.
 use crate::input;
-use crate::obey;
 use crate::show;
 use crate::turns;
 use crate::turns::Place;
@@ -16,7 +15,7 @@ ghost use Rattle.desk.specs.Meaning.{Numbered, outset, Speaks};
 fn obey_text(
     text: &[u8],
     ended: bool,
-    first: Place,
+    from: Place,
     image: &mut [u8; 32768],
     pad: &mut [u8; 256],
     vram: &mut [u8; 16384],
@@ -24,10 +23,10 @@ fn obey_text(
     journal: &mut [u32; 16384],
     out: &mut [u8; 216502],
 ) -> Turn
-    requires { ⌜ Numbered (now text) first ⌝ }
-    ensures { λ r. ⌜ Speaks ended text first (Image image & Pad pad & Vram vram & Regs regs & Journal journal) r ⌝ }
+    requires { ⌜ Numbered (now text) from ⌝ }
+    ensures { λ r. ⌜ Speaks ended text from (Image image & Pad pad & Vram vram & Regs regs & Journal journal) r ⌝ }
 {
-    let mut place = first;
+    let mut place = from;
     loop {
         let turn = turns::next_text(text, ended, place, image, pad, vram, regs, journal, out);
         show::write_text(out, turn.count);
@@ -42,7 +41,7 @@ fn obey_text(
     }
 }
 
-// A proved loop has to end, and nothing says that an input does: no piece is read after so many lines. Those of one piece more can be numbered.
+// A proved loop has to end, and nothing says that an input does: after so many lines no more is read, and those of one piece can still be numbered.
 const LAST: u64 = u64::MAX - 65547;
 
 // An input, piece by piece.
@@ -58,30 +57,16 @@ fn obey_input(
 )
     requires { ⌜ (length (now text) ≡ 65547) × (stateAt (now image) (now pad) (now vram) (now regs) (now journal) outset ≡ start) ⌝ }
 {
-    let at = obey::first();
-    let mut place = Place {
-        from: 0,
-        number: 0,
-        at,
-    };
-    let mut have: usize = 0;
+    let mut place = turns::first();
+    let mut have = 0;
     while place.number < LAST {
         let from = place.from;
         let kept = have - from;
         have = input::refill(fd, text, from, have);
         place.from = 0;
         let ended = have == kept;
-        let turn = obey_text(
-            &text[..have],
-            ended,
-            place,
-            image,
-            pad,
-            vram,
-            regs,
-            journal,
-            out,
-        );
+        let piece = &text[..have];
+        let turn = obey_text(piece, ended, place, image, pad, vram, regs, journal, out);
         if ended {
             return;
         }
@@ -93,8 +78,7 @@ fn obey_input(
     }
 }
 
-// The machine on the desk: an image of 32,768 zeros, a journal of 16,384 words, and all not set is 0. Of a text with one byte more than the longest line that
-// says something, some line is whole.
+// The machine on the desk, all 0. A text with one byte more than the longest line that says something has a whole line.
 pub fn obey_all(fd: i32) {
     let mut text = [0u8; 65547];
     let mut image = [0u8; 32768];

@@ -43,9 +43,7 @@ sub-line c =
     omega (arith, head .ends)
 
 part-line-start : tie.Need-part-line-start Inv-loop μ-loop
-part-line-start c =
-    let head = found-line (c .before .before .before .before .line-at .ensures) (c .before .before .end .given .1) in
-    omega (arith, head .ends)
+part-line-start c = sub-line c
 
 part-line-end : tie.Need-part-line-end Inv-loop μ-loop
 part-line-end c =

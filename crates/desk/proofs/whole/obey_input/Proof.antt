@@ -25,16 +25,17 @@ abbrev μ-loop : tie.MeasureT-loop
 
 loop-holds : tie.Need-loop-holds Inv-loop μ-loop
 loop-holds c =
-    (c .before .before .pre .0, search needs, search needs, omega (arith, c .before .before .pre .0), midway-none (rw (c .first .ensures) (c .before .before .pre .1)))
+    let start = c .before .before in
+    rw (c .first .ensures) (start .pre .0, omega arith, omega arith, omega (arith, start .pre .0), midway-none (start .pre .1))
 
 refill-requires : tie.Need-refill-requires Inv-loop μ-loop
 refill-requires c κs = (c .before .before .before .loop .inv .1, c .before .before .before .loop .inv .2, c .before .before .before .loop .inv .3)
 
-slice-reshare-prefix-obey-text : tie.Need-slice-reshare-prefix-obey-text Inv-loop μ-loop
-slice-reshare-prefix-obey-text c = c .before .before .refill .ensures .fits
+slice-reshare-prefix-piece : tie.Need-slice-reshare-prefix-piece Inv-loop μ-loop
+slice-reshare-prefix-piece c = c .before .before .refill .ensures .fits
 
-slice-aggregate-obey-text : tie.Need-slice-aggregate-obey-text Inv-loop μ-loop
-slice-aggregate-obey-text c = sym (length-take-le _ _ (c .before .before .before .refill .ensures .fits))
+slice-aggregate-piece : tie.Need-slice-aggregate-piece Inv-loop μ-loop
+slice-aggregate-piece c = sym (length-take-le _ _ (c .before .before .before .refill .ensures .fits))
 
 obey-text-requires : tie.Need-obey-text-requires Inv-loop μ-loop
 obey-text-requires c κs =
@@ -104,5 +105,5 @@ returns-3 c = search needs
 
 pub obey-input-spec : {M : Type 1} → statement M
 obey-input-spec =
-    tie.close (tie.spec Inv-loop μ-loop (search needs) loop-holds (search needs) refill-requires slice-reshare-prefix-obey-text
-    slice-aggregate-obey-text obey-text-requires same-length returns same-length-2 returns-2 loop-less loop-again same-length-3 returns-3)
+    tie.close (tie.spec Inv-loop μ-loop (search needs) loop-holds (search needs) refill-requires slice-reshare-prefix-piece
+    slice-aggregate-piece obey-text-requires same-length returns same-length-2 returns-2 loop-less loop-again same-length-3 returns-3)

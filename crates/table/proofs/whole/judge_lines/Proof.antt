@@ -26,9 +26,7 @@ sub-judge c =
     omega (arith, head .ends)
 
 part-judge-start : tie.Need-part-judge-start Inv-loop μ-loop
-part-judge-start c =
-    let head = found-line (c .before .before .before .line-at .ensures) (c .before .end .given .1) in
-    omega (arith, head .ends)
+part-judge-start c = sub-judge c
 
 part-judge-end : tie.Need-part-judge-end Inv-loop μ-loop
 part-judge-end c =
