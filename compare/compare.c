@@ -170,7 +170,7 @@ static struct outcome make_call(struct side *s, const struct test_case *c, const
 static bool same_report(const peer_report *a, const peer_report *b)
 {
     return a->answer == b->answer && a->pc == b->pc && a->used == b->used && a->steps == b->steps &&
-           a->stores == b->stores;
+           a->stores == b->stores && a->address == b->address;
 }
 
 static bool same_part(const struct part *a, const struct part *b)
@@ -191,9 +191,9 @@ static bool guarded(const struct side *s)
 
 static void print_outcome(const struct machine *m, const struct outcome *o)
 {
-    printf("# %s: answer %u pc %04X used %zu steps %" PRIu32 " stores %" PRIu64 " shown %zu offset %zu\n",
+    printf("# %s: answer %u pc %04X used %zu steps %" PRIu32 " stores %" PRIu64 " address %04X shown %zu offset %zu\n",
            m->name, o->report.answer, o->report.pc, o->report.used, o->report.steps, o->report.stores,
-           o->shown, o->offset);
+           o->report.address, o->shown, o->offset);
 }
 
 static void print_part_difference(const char *name, const struct part *a, const struct part *b)

@@ -219,7 +219,7 @@ ODD_LINES = [
     "run\t1\t1", "run\t\t1", "RUN\t1", "Pad\t00\t00", "rom\t0000\t00", "groms\t0000\t00",
     "register\t00\t00", "pads\t00\t00", "view\t00\t00", "# run\t1", "pad 00 00", "pad\t00 00",
     "run 1", "pad\t00\t0G", "pad\t00\t0@", "pad\t00\t0:", "pad\t00\t0/", "pad\t00\t0`",
-    "pad\t00\t0g", "pad\tG0\t00", "grom\t000G\t00", "answer\t0\t1\t8", "pad\t00\t00\x00", "\x00",
+    "pad\t00\t0g", "pad\tG0\t00", "grom\t000G\t00", "answer\t0\t1\t8\t0000", "pad\t00\t00\x00", "\x00",
     "pad\t00\t\u00e9\u00e9", "\ufeffrun\t1", "run\t1\v", "run\t1\f", "run\t1\x00", "run\t\u00b2",
     "grom\t0000\t" + "00" * 32768, "grom\t0000\t" + "00" * 32768 + "0", "grom\t0001\t" + "00" * 32768,
 ]

@@ -7,7 +7,8 @@
 static peer_report report_of(uint8_t answer, const uint64_t out[ARGOLYTHE_OUTS])
 {
     return (peer_report){answer, (uint16_t)out[ARGOLYTHE_OUT_PC], (size_t)out[ARGOLYTHE_OUT_USED],
-                         (uint32_t)out[ARGOLYTHE_OUT_STEPS], out[ARGOLYTHE_OUT_STORES]};
+                         (uint32_t)out[ARGOLYTHE_OUT_STEPS], out[ARGOLYTHE_OUT_STORES],
+                         (uint16_t)out[ARGOLYTHE_OUT_ADDRESS]};
 }
 
 /* Numbers that no call may leave standing, so that one that says nothing is seen. */

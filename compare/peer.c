@@ -77,19 +77,42 @@ struct bench {
     size_t used;
     uint32_t image_len;
     uint16_t pc;
-    uint8_t why; /* set when a helper returns false */
+    uint8_t why;    /* set when a helper returns false */
+    uint16_t where; /* set with it */
 };
 
+/* 02, item 2: "It is 0 for every other answer" */
 static inline bool refuse(struct bench *b, uint8_t why)
 {
     b->why = why;
+    b->where = 0;
+    return false;
+}
+
+/* "Wherever an address is turned down .. the offending 16-bit address .. must come out with the refusal" */
+static inline bool refuse_at(struct bench *b, uint8_t why, uint32_t address)
+{
+    b->why = why;
+    b->where = (uint16_t)address;
     return false;
 }
 
 static inline uint32_t refuse_value(struct bench *b, uint8_t why)
 {
-    b->why = why;
+    refuse(b, why);
     return REFUSED;
+}
+
+static inline uint32_t refuse_value_at(struct bench *b, uint8_t why, uint32_t address)
+{
+    refuse_at(b, why, address);
+    return REFUSED;
+}
+
+/* "of a word, the first byte out of range": the second one, if the first is the last in reach */
+static inline uint32_t first_out(uint32_t at, uint32_t last)
+{
+    return at == last ? at + 1 : at;
 }
 
 /* ---- reading GROM ---- */
@@ -131,7 +154,7 @@ static inline bool keep(struct bench *b, uint32_t kind, uint32_t at, uint8_t old
 static inline bool store_cpu(struct bench *b, uint32_t at, uint32_t byte)
 {
     if (at > PAD_LAST)
-        return refuse(b, BAD_CPU); /* "CPU offset above >DF" */
+        return refuse_at(b, BAD_CPU, at); /* "CPU offset above >DF" */
     if (!keep(b, KIND_CPU, at, b->pad[at]))
         return false;
     b->pad[at] = (uint8_t)byte;
@@ -141,7 +164,7 @@ static inline bool store_cpu(struct bench *b, uint32_t at, uint32_t byte)
 static inline bool store_vdp(struct bench *b, uint32_t at, uint32_t byte)
 {
     if (at > VDP_LAST)
-        return refuse(b, BAD_VDP); /* "VDP address above >3FFF" */
+        return refuse_at(b, BAD_VDP, at); /* "VDP address above >3FFF" */
     if (!keep(b, KIND_VDP, at, b->vdp[at]))
         return false;
     b->vdp[at] = (uint8_t)byte;
@@ -187,7 +210,7 @@ static inline uint32_t screen_position(const struct bench *b)
 static inline uint32_t pad_word(struct bench *b, uint32_t at)
 {
     if (at >= PAD_LAST)
-        return refuse_value(b, BAD_CPU); /* both bytes must be in reach */
+        return refuse_value_at(b, BAD_CPU, first_out(at, PAD_LAST)); /* both bytes must be in reach */
     return (uint32_t)b->pad[at] << 8 | b->pad[at + 1];
 }
 
@@ -222,7 +245,7 @@ static uint32_t decode_long(struct bench *b, uint32_t first, uint32_t width)
                 return REFUSED;
         }
         if (at + width - 1 > VDP_LAST)
-            return refuse_value(b, BAD_VDP);
+            return refuse_value_at(b, BAD_VDP, first_out(at, VDP_LAST));
         return VDP_BASE + at;
     }
     if (first & 0x10) {
@@ -232,12 +255,12 @@ static uint32_t decode_long(struct bench *b, uint32_t first, uint32_t width)
                 return REFUSED;
         } else { /* "it names a pad byte holding a pad offset" */
             if (at > PAD_LAST)
-                return refuse_value(b, BAD_CPU);
+                return refuse_value_at(b, BAD_CPU, at);
             at = b->pad[at];
         }
     }
     if (at + width - 1 > PAD_LAST) /* "A word operand needs both bytes in range." */
-        return refuse_value(b, BAD_CPU);
+        return refuse_value_at(b, BAD_CPU, first_out(at, PAD_LAST));
     return at;
 }
 
@@ -400,12 +423,12 @@ static inline uint32_t read_byte(struct bench *b, enum space space, uint32_t at)
 {
     switch (space) {
     case CPU:
-        return at > PAD_LAST ? refuse_value(b, BAD_CPU) : b->pad[at];
+        return at > PAD_LAST ? refuse_value_at(b, BAD_CPU, at) : b->pad[at];
     case VDP:
-        return at > VDP_LAST ? refuse_value(b, BAD_VDP) : b->vdp[at];
+        return at > VDP_LAST ? refuse_value_at(b, BAD_VDP, at) : b->vdp[at];
     default: /* "GROM source addresses count in 16 bits."  "GROM address beyond the image" */
         at &= 0xFFFF;
-        return at >= b->image_len ? refuse_value(b, BAD_GROM) : b->image[at];
+        return at >= b->image_len ? refuse_value_at(b, BAD_GROM, at) : b->image[at];
     }
 }
 
@@ -685,12 +708,12 @@ static bool skip(struct bench *b, uint32_t distance)
     return store_position(b, position);
 }
 
-/* "a format operand decoded to a VDP cell" answers 4 */
+/* "a format operand decoded to a VDP cell" answers 4; 02, item 2: "of a format operand, its VDP cell" */
 static uint32_t format_operand(struct bench *b)
 {
     uint32_t place = decode(b, 1);
     if (place != REFUSED && space_of(place) == VDP)
-        return refuse_value(b, BAD_CPU);
+        return refuse_value_at(b, BAD_CPU, address_of(place));
     return place;
 }
 
@@ -746,7 +769,7 @@ static bool format(struct bench *b)
 
     for (uint32_t codes = 0; codes < FORMAT_CODES; codes++) {
         if (b->pc >= b->image_len)
-            return refuse(b, BAD_GROM);
+            return refuse_at(b, BAD_GROM, b->pc);
         uint32_t code = next_byte(b);
         uint32_t count = (code & 0x1F) + 1; /* "Code n is the low 5 bits, count n+1" */
         bool good;
@@ -1003,27 +1026,36 @@ static void put_back(struct bench *b, size_t used)
     }
 }
 
-static inline uint8_t step(struct bench *b)
+/* Everything of a step that moves pc or stores; put back by its caller if refused. */
+static inline bool attempt(struct bench *b)
+{
+    uint16_t pc = b->pc;
+
+    if (pc >= b->image_len)
+        return refuse_at(b, BAD_GROM, pc);
+    uint32_t op = b->image[pc];
+    uint8_t answer = opcode_answer(op);
+    if (answer != DONE)
+        return refuse(b, answer);
+    /* "A step takes a mark word first, for every opcode that 2, 3 and 1 don't stop." */
+    if (!keep(b, KIND_MARK, 0, 0))
+        return false;
+    b->journal[b->used - 1] |= pc; /* "carries the old pc in its low 16 bits" */
+    b->pc = after(pc);
+    return execute(b, op);
+}
+
+/* False if the step was refused: then why and where are set. */
+static inline bool step(struct bench *b)
 {
     uint16_t pc = b->pc;
     size_t used = b->used;
 
-    if (pc >= b->image_len)
-        return BAD_GROM;
-    uint32_t op = b->image[pc];
-    uint8_t answer = opcode_answer(op);
-    if (answer != DONE)
-        return answer;
-    /* "A step takes a mark word first, for every opcode that 2, 3 and 1 don't stop." */
-    if (!keep(b, KIND_MARK, 0, 0))
-        return JOURNAL_FULL;
-    b->journal[used] |= pc; /* "carries the old pc in its low 16 bits" */
-    b->pc = after(pc);
-    if (execute(b, op))
-        return DONE;
+    if (attempt(b))
+        return true;
     put_back(b, used);
     b->pc = pc;
-    return b->why;
+    return false;
 }
 
 /* ---- the calls ---- */
@@ -1050,7 +1082,7 @@ peer_report peer_run(const uint8_t *image, size_t image_len,
 {
     /* "Answer 11 is tested first and touches nothing." */
     if (bad_image(image_len) || bad_memories(pad_len, vdp_len, reg_len, journal_len, used))
-        return (peer_report){BAD_LENGTH, pc, used, 0, 0};
+        return (peer_report){BAD_LENGTH, pc, used, 0, 0, 0};
 
     struct bench b = {
         .image = image,
@@ -1063,19 +1095,15 @@ peer_report peer_run(const uint8_t *image, size_t image_len,
         .image_len = (uint32_t)image_len,
         .pc = pc,
         .why = DONE,
+        .where = 0,
     };
-    uint8_t answer = DONE;
     uint32_t steps = 0;
 
     /* "A run makes up to n steps, stops at the first answer other than 0" */
-    while (steps < n) {
-        answer = step(&b);
-        if (answer != DONE)
-            break;
+    while (steps < n && step(&b))
         steps++;
-    }
     /* Each step done took one mark; every other word is a store. */
-    return (peer_report){answer, b.pc, b.used, steps, b.used - used - steps};
+    return (peer_report){b.why, b.pc, b.used, steps, b.used - used - steps, b.where};
 }
 
 peer_report peer_step(const uint8_t *image, size_t image_len,
@@ -1112,13 +1140,13 @@ peer_report peer_step_back(uint8_t *pad, size_t pad_len,
                            uint16_t pc, size_t used)
 {
     if (bad_memories(pad_len, vdp_len, reg_len, journal_len, used))
-        return (peer_report){BAD_LENGTH, pc, used, 0, 0};
+        return (peer_report){BAD_LENGTH, pc, used, 0, 0, 0};
 
     /* "takes words from the top down to the newest mark" */
     size_t mark = used;
     do {
         if (mark == 0 || !sound(journal[mark - 1]))
-            return (peer_report){NO_RECORD, pc, used, 0, 0};
+            return (peer_report){NO_RECORD, pc, used, 0, 0, 0};
         mark--;
     } while (journal[mark] >> KIND_SHIFT != KIND_MARK);
 
@@ -1128,7 +1156,7 @@ peer_report peer_step_back(uint8_t *pad, size_t pad_len,
         restore(pad, vdp, reg, journal[i - 1]);
         journal[i - 1] = 0;
     }
-    return (peer_report){DONE, old_pc, mark, 0, 0};
+    return (peer_report){DONE, old_pc, mark, 0, 0, 0};
 }
 
 size_t peer_view(size_t pad_len, size_t vdp_len, int memory,

@@ -6,13 +6,15 @@
 #include <stdint.h>
 
 /* What a call says: 01's answer number, pc, the journal's used count,
-   the steps done and the byte stores those steps made. */
+   the steps done, the byte stores those steps made, and the address that
+   was turned down with 4, 5 or 6 (02, item 2), else 0. */
 typedef struct {
     uint8_t answer;
     uint16_t pc;
     size_t used;
     uint32_t steps;
     uint64_t stores;
+    uint16_t address;
 } peer_report;
 
 /* One instruction at pc. */

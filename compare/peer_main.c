@@ -147,7 +147,8 @@ static void print_changes(const char *form, const uint8_t *before, const uint8_t
             printf(form, (unsigned)i, (unsigned)now[i]);
 }
 
-/* "It prints answer, steps, stores; pc; each cell changed, ascending, pad, vdp, reg." */
+/* "It prints answer, steps, stores; pc; each cell changed, ascending, pad, vdp, reg."
+   02, item 2: the address is "the answer line's fourth number, in hex". */
 static void run(struct bench *s, uint32_t n)
 {
     s->before = s->now;
@@ -155,8 +156,8 @@ static void run(struct bench *s, uint32_t n)
                              s->now.reg, REG_LEN, s->journal, JOURNAL_LEN, s->pc, s->used, n);
     s->pc = r.pc;
     s->used = r.used;
-    printf("answer\t%u\t%lu\t%llu\n", (unsigned)r.answer, (unsigned long)r.steps,
-           (unsigned long long)r.stores);
+    printf("answer\t%u\t%lu\t%llu\t%04X\n", (unsigned)r.answer, (unsigned long)r.steps,
+           (unsigned long long)r.stores, (unsigned)r.address);
     printf("pc\t%04X\n", (unsigned)r.pc);
     print_changes("pad\t%02X\t%02X\n", s->before.pad, s->now.pad, PAD_LEN);
     print_changes("vdp\t%04X\t%02X\n", s->before.vdp, s->now.vdp, VDP_LEN);

@@ -162,18 +162,20 @@ static double now_ns(void)
 }
 
 /* Every number of a report goes into the sum. */
-static inline void count(struct tally *t, uint64_t answer, uint64_t pc, uint64_t used, uint64_t steps, uint64_t stores)
+static inline void count(struct tally *t, uint64_t answer, uint64_t pc, uint64_t used, uint64_t steps, uint64_t stores,
+                         uint64_t address)
 {
     t->steps += steps;
     t->stores += stores;
     t->refused += answer != 0;
-    t->sum = (t->sum * 31 + answer) * 31 + (pc << 40 ^ used << 20 ^ steps << 8 ^ stores);
+    t->sum = (t->sum * 31 + answer) * 31 + (address << 48 ^ pc << 32 ^ used << 20 ^ steps << 8 ^ stores);
 }
 
 /* What the archive left in `out`, likewise. */
 static inline void count_out(struct tally *t, uint64_t answer, const uint64_t *out)
 {
-    count(t, answer, out[ARGOLYTHE_OUT_PC], out[ARGOLYTHE_OUT_USED], out[ARGOLYTHE_OUT_STEPS], out[ARGOLYTHE_OUT_STORES]);
+    count(t, answer, out[ARGOLYTHE_OUT_PC], out[ARGOLYTHE_OUT_USED], out[ARGOLYTHE_OUT_STEPS], out[ARGOLYTHE_OUT_STORES],
+          out[ARGOLYTHE_OUT_ADDRESS]);
 }
 
 /* One run of the peer's, from an empty journal. */
@@ -182,7 +184,7 @@ static size_t peer_runs(struct side *s, uint32_t n, struct tally *t)
     peer_report r = peer_run(image, IMAGE_LEN, s->pad, PAD_LEN, s->vdp, VDP_LEN, s->reg, REG_LEN, s->journal,
                              JOURNAL_LEN, s->pc, 0, n);
     s->pc = r.pc;
-    count(t, r.answer, r.pc, r.used, r.steps, r.stores);
+    count(t, r.answer, r.pc, r.used, r.steps, r.stores, r.address);
     return r.used;
 }
 
@@ -206,7 +208,7 @@ static void peer_steps(struct side *s, uint32_t n, struct tally *t)
                                   JOURNAL_LEN, s->pc, used);
         s->pc = r.pc;
         used = r.used;
-        count(t, r.answer, r.pc, r.used, r.steps, r.stores);
+        count(t, r.answer, r.pc, r.used, r.steps, r.stores, r.address);
     }
 }
 
@@ -232,7 +234,7 @@ static void peer_backs(struct side *s, uint32_t n, size_t used, struct tally *t)
                                        s->pc, used);
         s->pc = r.pc;
         used = r.used;
-        count(t, r.answer, r.pc, r.used, 0, r.stores);
+        count(t, r.answer, r.pc, r.used, 0, r.stores, r.address);
     }
 }
 
@@ -245,7 +247,8 @@ static void our_backs(struct side *s, uint32_t n, size_t used, struct tally *t)
                                              JOURNAL_LEN, s->pc, used, out);
         s->pc = (uint16_t)out[ARGOLYTHE_OUT_PC];
         used = (size_t)out[ARGOLYTHE_OUT_USED];
-        count(t, answer, out[ARGOLYTHE_OUT_PC], out[ARGOLYTHE_OUT_USED], 0, out[ARGOLYTHE_OUT_STORES]);
+        count(t, answer, out[ARGOLYTHE_OUT_PC], out[ARGOLYTHE_OUT_USED], 0, out[ARGOLYTHE_OUT_STORES],
+              out[ARGOLYTHE_OUT_ADDRESS]);
     }
 }
 

@@ -99,6 +99,20 @@ static void past_the_end(void)
     printf("A step more answers %d and does %d steps.\n", answer, (int)out[ARGOLYTHE_OUT_STEPS]);
     expect(answer == ARGOLYTHE_ENDED && out[ARGOLYTHE_OUT_STEPS] == 0 && pc == 0x000B,
            "a refused step changes nothing");
+    expect(out[ARGOLYTHE_OUT_ADDRESS] == 0, "no address was turned down");
+}
+
+static void beyond_the_image(void)
+{
+    uint64_t out[ARGOLYTHE_OUTS];
+    uint16_t there = pc;
+    pc = ARGOLYTHE_GROUP;
+    uint8_t answer = step(out);
+    printf("A step at %04X answers %d (6: beyond the image) and names %04X.\n", pc, answer,
+           (unsigned)out[ARGOLYTHE_OUT_ADDRESS]);
+    expect(answer == ARGOLYTHE_OFF_IMAGE && out[ARGOLYTHE_OUT_ADDRESS] == ARGOLYTHE_GROUP,
+           "the address comes out with the refusal");
+    pc = there;
 }
 
 static void back_to_the_start(void)
@@ -123,6 +137,7 @@ int main(void)
     to_the_end();
     look();
     past_the_end();
+    beyond_the_image();
     back_to_the_start();
     printf(wrong ? "Something was not as expected.\n" : "All as expected.\n");
     return wrong ? 1 : 0;

@@ -25,13 +25,13 @@ struct Machine {
 
 impl Machine {
     // What a call leaves is where the next one starts.
-    fn keep(&mut self, out: [u64; 4]) {
+    fn keep(&mut self, out: [u64; 5]) {
         self.pc = out[0] as u16;
         self.used = out[1] as usize;
     }
 
     fn step(&mut self, image: &[u8]) -> u8 {
-        let mut out = [0; 4];
+        let mut out = [0; 5];
         // Each pointer goes with its own length, and distinct fields do not overlap.
         #[rustfmt::skip]
         let answer = unsafe {
@@ -46,7 +46,7 @@ impl Machine {
     }
 
     fn step_back(&mut self) -> u8 {
-        let mut out = [0; 4];
+        let mut out = [0; 5];
         // As above.
         #[rustfmt::skip]
         let answer = unsafe {

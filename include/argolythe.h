@@ -67,15 +67,20 @@ enum argolythe_answer {
     ARGOLYTHE_OFF_REGISTERS = 13   /* VDP register above 7 */
 };
 
-/* ---- what comes out: four numbers, whatever the answer */
+/* ---- what comes out: five numbers, whatever the answer */
 
 enum argolythe_out {
-    ARGOLYTHE_OUT_PC = 0,     /* pc for the next call; that of this call if a step was refused */
-    ARGOLYTHE_OUT_USED = 1,   /* used journal words for the next call */
-    ARGOLYTHE_OUT_STEPS = 2,  /* how many steps were done, or taken back */
-    ARGOLYTHE_OUT_STORES = 3, /* how many bytes these steps stored; 0 for a step back */
-    ARGOLYTHE_OUTS = 4
+    ARGOLYTHE_OUT_PC = 0,      /* pc for the next call; that of this call if a step was refused */
+    ARGOLYTHE_OUT_USED = 1,    /* used journal words for the next call */
+    ARGOLYTHE_OUT_STEPS = 2,   /* how many steps were done, or taken back */
+    ARGOLYTHE_OUT_STORES = 3,  /* how many bytes these steps stored; 0 for a step back */
+    ARGOLYTHE_OUT_ADDRESS = 4, /* the address that was turned down, see below */
+    ARGOLYTHE_OUTS = 5
 };
+
+/* ARGOLYTHE_OUT_ADDRESS is, with answer 4, the pad offset that was turned down, or a format operand's
+ * VDP address; with 5 the VDP address; with 6 the GROM address. Of a word it is the first byte out of
+ * range. It has 16 bits, and is 0 with every other answer, so of a step back always. */
 
 /* ---- the calls
  *

@@ -45,9 +45,9 @@ const SCREEN: [u8; 17] = [
     0x00,
 ];
 
-fn show_answer(answer: u8, steps: u32, stores: u64) {
-    let mut out = [0u8; 70];
-    let count = print::put_answer(&mut out, 0, answer, steps, stores);
+fn show_answer(answer: u8, steps: u32, stores: u64, address: u16) {
+    let mut out = [0u8; 75];
+    let count = print::put_answer(&mut out, 0, answer, steps, stores, address);
     desk::show::write_text(&out, count);
 }
 
@@ -93,7 +93,7 @@ fn walk_back(
         left -= 1;
     }
     let last = bench::walk::step_back(pad, vram, regs, journal, at);
-    show_answer(last.answer, 0, last.stores);
+    show_answer(last.answer, 0, last.stores, last.address);
 }
 
 // A run from 0 to the instruction that fails, and the walk back.
@@ -114,7 +114,7 @@ fn walk(image: &[u8; 8192]) {
         100,
     );
     let at = r.at;
-    show_answer(r.answer, r.steps, r.stores);
+    show_answer(r.answer, r.steps, r.stores, r.address);
     show_place(&pad, &vram, at.pc);
     walk_back(&mut pad, &mut vram, &mut regs, &mut journal, at, r.steps);
 }

@@ -6,6 +6,7 @@ use Prim.Native.Nat.{ℕ, suc, _+_, _-_, _≤_, _<_}
 use native.Mathlib.Omega.{arith}
 use lib.ListN.{length}
 use Rattle.rules.specs.Machine.{mem, State}
+use Rattle.rules.specs.Answers.{Answer, saying, well, answerFor, wrongLength}
 use Rattle.rules.specs.Calls.{fits, Reply, left, step, stepStores, made, Report, report, steps, run}
 use Rattle.rules.specs.Demands.{Good, Accepted}
 use Rattle.rules.proofs.Stores.{used-after}
@@ -15,7 +16,7 @@ use Rattle.rules.proofs.History.{stepped}
 use Rattle.bench.specs.declared.at.At.{At}
 use Rattle.bench.specs.declared.walk.Reply as walk
 use Rattle.bench.specs.declared.runs.Report as runs
-use Rattle.bench.specs.Meaning.{stateAt, Returned, returned, leaves, told, settling, stepping, reported, Tells}
+use Rattle.bench.specs.Meaning.{stateAt, Returned, returned, leaves, told, settling, stepping, reported, noSteps, Tells}
 use Rattle.bench.proofs.Replies.{accepts, refuses, counts}
 use Rattle.bench.proofs.Steps.{AreBytes, bytes-of, step-fits}
 
@@ -24,7 +25,7 @@ abbrev ahead : ℕ → ℕ → Report → Report
 ahead k n r = report (r .answer) (k + r .steps) (n + r .stores) (r .end)
 
 -- reports that differ in how their counts are written
-recount : (a : ℕ) (s : State) {k₁ k₂ n₁ n₂ : ℕ} → k₁ ≡ k₂ → n₁ ≡ n₂ → report a k₁ n₁ s ≡ report a k₂ n₂ s
+recount : (a : Answer) (s : State) {k₁ k₂ n₁ n₂ : ℕ} → k₁ ≡ k₂ → n₁ ≡ n₂ → report a k₁ n₁ s ≡ report a k₂ n₂ s
 recount a s = ap₂ (λ (k n : ℕ). report a k n s)
 
 -- a run of n steps from s₀, of which k are made, with c stores, stands at s
@@ -79,30 +80,30 @@ module _ {n : ℕ} {s₀ : State} {k c : ℕ} {s : State} {x : Returned walk.Rep
       }
 
   -- it was refused: the run is over
-  pub breaks-off : k < n → (x .result .answer ≡ 0 → ⊥) → report (x .result .answer) k c (leaves x) ≡ steps n s₀
+  pub breaks-off : k < n → (x .result .answer ≡ 0 → ⊥) → report (saying (x .result .answer) (x .result .address)) k c (leaves x) ≡ steps n s₀
   unfolding steps
   breaks-off l h =
       let more : n - k ≡ suc (n - (k + 1)) = omega arith in
-      recount (x .result .answer) (leaves x) (omega arith) (omega arith) ∙ (rw (more, refuses call h) at (u .whole))
+      recount (saying (x .result .answer) (x .result .address)) (leaves x) (omega arith) (omega arith) ∙ (rw (more, refuses call h) at (u .whole))
 
 -- ---- how it ends
 
 pub stops : {n : ℕ} {s₀ : State} {k c : ℕ} {s : State} {i p v g j : List ℕ} {r : walk.Reply} → Underway n s₀ k c s
     → Tells told settling s (returned i p v g j r) → k < n → (r .answer ≡ 0 → ⊥)
-    → Tells reported (steps n) s₀ (returned i p v g j (record { answer = r .answer; steps = k; stores = c; at = r .at }))
+    → Tells reported (steps n) s₀ (returned i p v g j (record { answer = r .answer; address = r .address; steps = k; stores = c; at = r .at }))
 stops u e l h = record { is = breaks-off u e l h }
 
 pub ends : {n : ℕ} {s₀ : State} {k c : ℕ} {i p v g j : List ℕ} {at : At} → Underway n s₀ k c (stateAt i p v g j at) → n ≤ k
-    → Tells reported (steps n) s₀ (returned i p v g j (record { answer = 0; steps = k; stores = c; at = at }))
+    → Tells reported (steps n) s₀ (returned i p v g j (record { answer = 0; address = 0; steps = k; stores = c; at = at }))
 unfolding steps
 ends {n} {k = k} {i = i} {p = p} {v = v} {g = g} {j = j} {at = at} u l =
     let none : n - k ≡ 0 = omega arith in
-    record { is = recount 0 (stateAt i p v g j at) (omega arith) (omega arith) ∙ (rw none at (u .whole)) }
+    record { is = recount well (stateAt i p v g j at) (omega arith) (omega arith) ∙ (rw none at (u .whole)) }
 
 -- ---- the call
 
 pub run-unfit : (n : ℕ) {i p v g j : List ℕ} {at : At} {t : Bool} → t ≡ fits (stateAt i p v g j at .mem) → t ≡ false
-    → Tells reported (run n) (stateAt i p v g j at) (returned i p v g j (record { answer = 11; steps = 0; stores = 0; at = at }))
+    → Tells reported (run n) (stateAt i p v g j at) (returned i p v g j (noSteps (answerFor wrongLength) at))
 unfolding run
 run-unfit n e h = record { is = rw (sym e ∙ h) }
 

@@ -5,7 +5,7 @@ use mathlib.Core.List.{List}
 use Prim.Native.Nat.{ℕ}
 use native.Mathlib.Omega.{arith}
 use Rattle.rules.specs.Machine.{pick, State}
-use Rattle.rules.specs.Answers.{number, wrongLength}
+use Rattle.rules.specs.Answers.{saying, answerFor, wrongLength}
 use Rattle.rules.specs.Calls.{memFits, fits, Reply, done, refused, made, Report, report, run, Find, found, lost, scan, backTo, fitBack, stepBack, Memory, view}
 use Rattle.rules.specs.Demands.{BackCause, wrong-parts, no-record, Demand1, Demand2, Ends}
 use Rattle.rules.proofs.Named.{Answered, named-run}
@@ -33,7 +33,7 @@ module _ {s : State} where
       read : Report → Returned runs.Report
       read r =
           let at : At = record { pc = r .end .pc; used = r .end .mem .used } in
-          returnedOf (r .end .mem) (record { answer = r .answer; steps = r .steps; stores = r .stores; at = at })
+          returnedOf (r .end .mem) (record { answer = r .answer .number; address = r .answer .address; steps = r .steps; stores = r .stores; at = at })
 
 pub view-determined : (w : Memory) (p v : List ℕ) (at len : ℕ) {x y : List ℕ} → x ≡ view w p v at len → y ≡ view w p v at len → x ≡ y
 view-determined w p v at len e k = e ∙ sym k
@@ -43,8 +43,8 @@ view-determined w p v at len e k = e ∙ sym k
 module _ {s : State} {x : Returned walk.Reply} (e : Tells told stepping s x) where
   -- Demand 1. A refused step: its answer is one of the listed refusals; pc, pad, VDP RAM, registers and used are as before it; the journal words that it
   -- had begun to use are 0, and all others as before. It reports no stores.
-  pub demand1 : (x .result .answer ≡ 0 → ⊥) → Demand1 s (x .result .answer) (leaves x) × (x .result .stores ≡ 0)
-  demand1 h = (replies-of.demand1 s (x .result .answer) (leaves x) (refuses e h), counts e ∙ ap (made s) (refuses e h))
+  pub demand1 : (x .result .answer ≡ 0 → ⊥) → Demand1 s (saying (x .result .answer) (x .result .address)) (leaves x) × (x .result .stores ≡ 0)
+  demand1 h = (replies-of.demand1 s (saying (x .result .answer) (x .result .address)) (leaves x) (refuses e h), counts e ∙ ap (made s) (refuses e h))
 
   -- Demand 2. An accepted step: pc and memories are those that the rules give, the count is the number of stores in the rules' list, and the journal has
   -- grown by a word for the step and one for each store.
@@ -55,10 +55,10 @@ module _ {s : State} {x : Returned walk.Reply} (e : Tells told stepping s x) whe
 
 module _ (n : ℕ) {s : State} {x : Returned runs.Report} (e : Tells reported (run n) s x) where
   -- Demand 1. A run answers 0 or with one of the listed refusals; where test 11 fails, it answers 11 and has touched nothing.
-  pub run-listed : Answered (x .result .answer)
+  pub run-listed : Answered (saying (x .result .answer) (x .result .address))
   run-listed = subst (λ (r : Report). Answered (r .answer)) (sym (e .is)) (named-run n s)
 
-  pub run-unfit : fits (s .mem) ≡ false → reported x ≡ report (number wrongLength) 0 0 s
+  pub run-unfit : fits (s .mem) ≡ false → reported x ≡ report (answerFor wrongLength) 0 0 s
   run-unfit f = e .is ∙ run-of.run-unfit n s f
 
   -- Demands 1 and 2. Otherwise it has made n steps, all accepted, or k of them and the next was refused; its steps and stores are those of the accepted
@@ -71,21 +71,21 @@ module _ (n : ℕ) {s : State} {x : Returned runs.Report} (e : Tells reported (r
 -- one that is refused has a cause, and leaves the state that it found
 abbrev StaysAs : State → Reply → Type 0
 StaysAs s (done t) = Unit {0}
-StaysAs s (refused n t) = BackCause s n × (t ≡ s)
+StaysAs s (refused a t) = BackCause s a × (t ≡ s)
 
 stays : (s : State) → StaysAs s (stepBack s)
 unfolding stepBack fitBack
 stays s = go (memFits (s .mem)) refl (scan (s .mem .used) (s .mem .journal)) refl
   where
     go : (c : Bool) → memFits (s .mem) ≡ c → (f : Find) → scan (s .mem .used) (s .mem .journal) ≡ f
-        → StaysAs s (pick c (backTo f s) (refused (number wrongLength) s))
+        → StaysAs s (pick c (backTo f s) (refused (answerFor wrongLength) s))
     go true e (found n pc) k = tt
     go true e lost k = (no-record e k, refl)
     go false e f k = (wrong-parts e, refl)
 
 -- Demand 1. A refused step back: 11 where test 11 fails, 12 where no sound record is found, and it has touched nothing.
 pub step-back-refused : {s : State} {x : Returned walk.Reply} → Tells told backing s x → (x .result .answer ≡ 0 → ⊥)
-    → BackCause s (x .result .answer) × (leaves x ≡ s)
+    → BackCause s (saying (x .result .answer) (x .result .address)) × (leaves x ≡ s)
 step-back-refused {s = s} e h = subst (StaysAs s) (refuses e h) (stays s)
 
 -- ---- 02, item 8: no call answers 9

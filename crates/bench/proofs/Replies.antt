@@ -4,50 +4,56 @@ use Prim.Native.Nat.{ℕ, zero, suc}
 use native.Mathlib.Omega.{arith}
 use borrow.Author.Tests.{ne-eqb}
 use Rattle.rules.specs.Machine.{State}
+use Rattle.rules.specs.Answers.{saying}
 use Rattle.rules.specs.Calls.{done, refused, answer, left}
 use Rattle.bench.specs.declared.walk.Reply as walk
 use Rattle.bench.specs.Meaning.{Returned, returnedOf, Outcome, replies, leaves, told, Tells}
 
-said-answer : (a : ℕ) (s : State) → answer (replies a s) ≡ a
+said-answer : (a d : ℕ) (s : State) → answer (replies (saying a d) s) .number ≡ a
 unfolding replies
-said-answer zero s = refl
-said-answer (suc a) s = rw (ne-eqb (suc a) 0 (λ e. omega arith))
+said-answer zero d s = refl
+said-answer (suc a) d s = rw (ne-eqb (suc a) 0 (λ e. omega arith))
 
-said-state : (a : ℕ) (s : State) → left (replies a s) ≡ s
+said-state : (a d : ℕ) (s : State) → left (replies (saying a d) s) ≡ s
 unfolding replies
-said-state zero s = refl
-said-state (suc a) s = rw (ne-eqb (suc a) 0 (λ e. omega arith))
+said-state zero d s = refl
+said-state (suc a) d s = rw (ne-eqb (suc a) 0 (λ e. omega arith))
 
 module _ {f : State → Outcome} {s : State} {x : Returned walk.Reply} (e : Tells told f s x) where
-  pub says : f s .reply ≡ replies (x .result .answer) (leaves x)
+  pub says : f s .reply ≡ replies (saying (x .result .answer) (x .result .address)) (leaves x)
   says = sym (ap (λ (o : Outcome). o .reply) (e .is))
 
   pub accepts : x .result .answer ≡ 0 → f s .reply ≡ done (leaves x)
   unfolding replies
   accepts z = says ∙ rw z
 
-  pub refuses : (x .result .answer ≡ 0 → ⊥) → f s .reply ≡ refused (x .result .answer) (leaves x)
+  pub refuses : (x .result .answer ≡ 0 → ⊥) → f s .reply ≡ refused (saying (x .result .answer) (x .result .address)) (leaves x)
   unfolding replies
   refuses h = says ∙ rw (ne-eqb (x .result .answer) 0 h)
 
   pub leads : leaves x ≡ left (f s .reply)
-  leads = sym (ap left says ∙ said-state (x .result .answer) (leaves x))
+  leads = sym (ap left says ∙ said-state (x .result .answer) (x .result .address) (leaves x))
+
+  -- also of a call that was done
+  pub addresses : x .result .address ≡ f s .address
+  addresses = ap (λ (o : Outcome). o .address) (e .is)
 
   pub counts : x .result .stores ≡ f s .stores
   counts = ap (λ (o : Outcome). o .stores) (e .is)
 
 -- what is returned can be read off what it tells
-made-of : ℕ → State → ℕ → Returned walk.Reply
-made-of a s n = returnedOf (s .mem) (record { answer = a; stores = n; at = record { pc = s .pc; used = s .mem .used } })
+made-of : ℕ → State → ℕ → ℕ → Returned walk.Reply
+made-of a s d n = returnedOf (s .mem) (record { answer = a; address = d; stores = n; at = record { pc = s .pc; used = s .mem .used } })
 
 read : Outcome → Returned walk.Reply
-read o = made-of (answer (o .reply)) (left (o .reply)) (o .stores)
+read o = made-of (answer (o .reply) .number) (left (o .reply)) (o .address) (o .stores)
 
 read-told : (x : Returned walk.Reply) → read (told x) ≡ x
 unfolding read made-of
 read-told x =
     let a : ℕ = x .result .answer in
-    ap₂ (λ (b : ℕ) (s : State). made-of b s (x .result .stores)) (said-answer a (leaves x)) (said-state a (leaves x))
+    let d : ℕ = x .result .address in
+    ap₂ (λ (b : ℕ) (s : State). made-of b s d (x .result .stores)) (said-answer a d (leaves x)) (said-state a d (leaves x))
 
 pub same-told : {x y : Returned walk.Reply} → told x ≡ told y → x ≡ y
 same-told {x} {y} e = sym (read-told x) ∙ ap read e ∙ read-told y

@@ -7,6 +7,7 @@ use native.Mathlib.Omega.{arith}
 use lib.Dec.{eqb}
 use borrow.Author.Tests.{ne-eqb}
 use Rattle.rules.specs.Machine.{pick, State}
+use Rattle.rules.specs.Answers.{Answer, saying}
 use Rattle.rules.specs.Calls.{fits, Reply, done, refused, left, step, Report, run}
 use Rattle.rules.specs.Demands.{Good, Listed, Accepted, Refused, Op, forth, aback, reply, play, tally, kept, forward, AllAccepted, total, Ends, full, cut, Demand3}
 use Rattle.rules.proofs.Opcodes.{never-done}
@@ -67,7 +68,7 @@ allOps (a ∷ l) = allOps l ++ ops a
 -- ---- each call, by its contract
 
 -- what a caller counts of an answer is what the rules keep
-tallies : (o : Op) (b : Bool) (a : ℕ) (t : State) (c d : Count) → d .steps ≡ tally o (done t) (c .steps)
+tallies : (o : Op) (b : Bool) (a : Answer) (t : State) (c d : Count) → d .steps ≡ tally o (done t) (c .steps)
     → (pick b d c) .steps ≡ tally o (pick b (done t) (refused a t)) (c .steps)
 tallies o true a t c d e = e
 tallies forth false a t c d e = refl
@@ -79,7 +80,7 @@ unfolding replies
 call-plays o {x = x} c d e q k =
     record {
       leads = leads e ∙ ap left q;
-      keeps = tallies o (eqb (x .result .answer) 0) (x .result .answer) (leaves x) c d k ∙ ap (λ (r : Reply). tally o r (c .steps)) (sym (says e) ∙ q);
+      keeps = tallies o (eqb (x .result .answer) 0) (saying (x .result .answer) (x .result .address)) (leaves x) c d k ∙ ap (λ (r : Reply). tally o r (c .steps)) (sym (says e) ∙ q);
     }
 
 -- steps that are all accepted
@@ -93,11 +94,11 @@ forths-play (suc k) {s} n a =
     go (done u) b = omega arith
     go (refused b u) b₂ = absurd b₂
 
-ends-play : {n : ℕ} {s : State} {r : Report} (m : ℕ) → Ends n s r → Plays s m (runOps (r .answer) (r .steps)) (r .end) (m + r .steps)
+ends-play : {n : ℕ} {s : State} {r : Report} (m : ℕ) → Ends n s r → Plays s m (runOps (r .answer .number) (r .steps)) (r .end) (m + r .steps)
 ends-play {n} m (full a) = on (forths-play n m a) (record { leads = refl; keeps = refl })
 ends-play {s = s} m (cut {k} {a} {t} l h e) =
     let f : Listed a = subst NamedReply e (named-step (forward k s)) in
-    rw (ne-eqb a 0 (λ z. omega (arith, never-done (f .why), f .is)))
+    rw (ne-eqb (a .number) 0 (λ z. omega (arith, never-done (f .why), ap (λ (b : Answer). b .number) (f .is))))
     (on (forths-play k m h) (record { leads = ap left (sym e); keeps = ap (λ (q : Reply). tally forth q (m + k)) (sym e) }))
 
 run-plays : (n : ℕ) {s : State} {x : Returned runs.Report} (c : Count) → Tells reported (run n) s x
@@ -107,7 +108,7 @@ run-plays n {s} {x} c e = go (fits (s .mem)) refl
     go : (b : Bool) → fits (s .mem) ≡ b
         → Plays s (c .steps) (runOps (x .result .answer) (x .result .steps)) (reported x .end) (c .steps + x .result .steps)
     go true f = ends-play (c .steps) (run-ends n e f)
-    go false f = subst (λ (r : Report). Plays s (c .steps) (runOps (r .answer) (r .steps)) (r .end) (c .steps + r .steps)) (sym (run-unfit n e f))
+    go false f = subst (λ (r : Report). Plays s (c .steps) (runOps (r .answer .number) (r .steps)) (r .end) (c .steps + r .steps)) (sym (run-unfit n e f))
         (record { leads = ap left (sym (step-unfit s f)); keeps = omega (arith, ap (λ (q : Reply). tally forth q (c .steps)) (step-unfit s f)) })
 
 -- ---- any sequence of them

@@ -5,13 +5,13 @@ use mathlib.Core.List.{List}
 use Prim.Native.Nat.{ℕ, zero, suc, _+_, _-_, _≤_, _<_}
 use native.Mathlib.Nat.{sub-self}
 use native.Mathlib.Omega.{arith}
-use lib.Dec.{ltb}
+use lib.Dec.{ltb, eqb}
 use lib.ListN.{length, getD, length-set}
 use mir.Syntax.{w8}
 use mir.Val.{Fits}
 use borrow.Author.Tests.{ne-eqb}
 use Rattle.rules.specs.Machine.{pick, cpu, vdp, register, Mem, mem, State, state, beside, onward}
-use Rattle.rules.specs.Answers.{Why, number, offGrom}
+use Rattle.rules.specs.Answers.{Why, Answer, well, answerFor, offGrom, wrongLength}
 use Rattle.rules.specs.Journal.{markWord, Store, undo, blanked}
 use Rattle.rules.specs.Rules.{Rule, Out, got, stopped, then, after, valued, next, nextByte, perform, exec}
 use Rattle.rules.specs.Opcodes.{Task, Class, stops, does, classOf}
@@ -37,10 +37,13 @@ pub tries : {i p v g j : List ℕ} {t : Task} {pc pc₁ u : ℕ} {n : Now} {s e 
 unfolding begin outs
 tries {t = t} b k h = record { is = chain.done h ∙ ap (λ (x : Out (Unit {0})). after x (ruleOf t)) (k ∙ rw b) }
 
-memOf-outs : (a pc : ℕ) (m : Mem) → memOf (outs a pc m) ≡ m
+memOf-outs : (a : Answer) (pc : ℕ) (m : Mem) → memOf (outs a pc m) ≡ m
 unfolding outs
-memOf-outs zero pc m = refl
-memOf-outs (suc a) pc m = rw (ne-eqb (suc a) 0 (λ e. omega arith))
+memOf-outs a pc m = go (eqb (a .number) 0)
+  where
+    go : (b : Bool) → memOf (pick b (got (tt {0}) pc m) (stopped a m)) ≡ m
+    go true = refl
+    go false = refl
 
 module _ {pc : ℕ} {m : Mem} where
   tried-grows : {ss : List Store} {o : Out (Unit {0})} → Tried pc m ss o → m .used ≤ memOf o .used
@@ -51,7 +54,7 @@ module _ {pc : ℕ} {m : Mem} where
   tried-fits early l = l
   tried-fits (late h t) l = used-fits t (rw (length-set (m .journal) (m .used) (markWord pc)) h)
 
-module _ {t : Task} {pc₁ a pc₂ : ℕ} {s : State} {m : Mem} (g : Tries t pc₁ s (stand a pc₂ m)) where
+module _ {t : Task} {a : Answer} {pc₁ pc₂ : ℕ} {s : State} {m : Mem} (g : Tries t pc₁ s (stand a pc₂ m)) where
   tried : Tried (s .pc) (s .mem) (beginStores (s .pc) (does t) pc₁ (s .mem)) (outs a pc₂ m)
   tried = rw (g .is) (tried-begin (s .pc) (s .mem) (does t) pc₁)
 
@@ -61,22 +64,22 @@ module _ {t : Task} {pc₁ a pc₂ : ℕ} {s : State} {m : Mem} (g : Tries t pc�
   pub used-stays : s .mem .used ≤ length (s .mem .journal) → m .used ≤ length (m .journal)
   used-stays l = rw (memOf-outs a pc₂ m) at (tried-fits tried l)
 
-  counted : a ≡ 0 → m .used ≡ suc (s .mem .used) + length (beginStores (s .pc) (does t) pc₁ (s .mem))
+  counted : a .number ≡ 0 → m .used ≡ suc (s .mem .used) + length (beginStores (s .pc) (does t) pc₁ (s .mem))
   unfolding outs
   counted z = tried-count (rw z at tried)
 
-  pub took-a-mark : a ≡ 0 → s .mem .used < m .used
+  pub took-a-mark : a .number ≡ 0 → s .mem .used < m .used
   took-a-mark z = omega (arith, counted z)
 
   -- put back word by word: the words that it had taken are 0, and all else is as before
-  put-back : s .pc < 65536 → Bytes (s .mem) → (a ≡ 0 → ⊥) → undo (m .used - s .mem .used) m ≡ blanked (m .used - s .mem .used) (s .mem)
+  put-back : s .pc < 65536 → Bytes (s .mem) → (a .number ≡ 0 → ⊥) → undo (m .used - s .mem .used) m ≡ blanked (m .used - s .mem .used) (s .mem)
   unfolding outs
-  put-back l b h = rollback-step l b (rw (ne-eqb a 0 h) at tried)
+  put-back l b h = rollback-step l b (rw (ne-eqb (a .number) 0 h) at tried)
 
-pub task-done : {i p v g j : List ℕ} {t : Task} {pc₁ a pc u n : ℕ} {s : State} → Tries t pc₁ s (stand a pc (mem i p v g j u)) → a ≡ 0 → n ≡ u - s .mem .used - 1
-    → Tells told (beginning t pc₁) s (returned i p v g j (record { answer = 0; stores = n; at = record { pc = pc; used = u } }))
+pub task-done : {i p v g j : List ℕ} {t : Task} {a : Answer} {pc₁ pc u n : ℕ} {s : State} → Tries t pc₁ s (stand a pc (mem i p v g j u)) → a .number ≡ 0 → n ≡ u - s .mem .used - 1
+    → Tells told (beginning t pc₁) s (returned i p v g j (record { answer = 0; address = 0; stores = n; at = record { pc = pc; used = u } }))
 unfolding outs replies
-task-done {i} {p} {v} {g} {j} {t} {pc₁} {a} {pc} {u} {n} {s} h z q =
+task-done {i} {p} {v} {g} {j} {t} {a} {pc₁} {pc} {u} {n} {s} h z q =
     let ss : List Store = beginStores (s .pc) (does t) pc₁ (s .mem) in
     let count : n ≡ length ss = omega (arith, counted h z) in
     record { is = ap (outcome (done (state pc (mem i p v g j u)))) count ∙ ap (λ (o : Out (Unit {0})). settled s o ss) (rw z at (h .is)) }
@@ -90,26 +93,26 @@ bytes-of m a b c cpu n = a n .fits
 bytes-of m a b c vdp n = b n .fits
 bytes-of m a b c register n = c n .fits
 
-pub task-undone : {i p v g j p₂ v₂ g₂ j₂ p₃ v₃ g₃ j₃ : List ℕ} {t : Task} {at : At} {pc₁ a pc₂ u w : ℕ} → at .pc < 65536 → AreBytes p → AreBytes v → AreBytes g
-    → Tries t pc₁ (stateAt i p v g j at) (stand a pc₂ (mem i p₂ v₂ g₂ j₂ u)) → (a ≡ 0 → ⊥) → mem i p₃ v₃ g₃ j₃ w ≡ undo (u - at .used) (mem i p₂ v₂ g₂ j₂ u)
+pub task-undone : {i p v g j p₂ v₂ g₂ j₂ p₃ v₃ g₃ j₃ : List ℕ} {t : Task} {at : At} {a : Answer} {pc₁ pc₂ u w : ℕ} → at .pc < 65536 → AreBytes p → AreBytes v → AreBytes g
+    → Tries t pc₁ (stateAt i p v g j at) (stand a pc₂ (mem i p₂ v₂ g₂ j₂ u)) → (a .number ≡ 0 → ⊥) → mem i p₃ v₃ g₃ j₃ w ≡ undo (u - at .used) (mem i p₂ v₂ g₂ j₂ u)
     → Tells told (beginning t pc₁) (stateAt i p v g j at) (returned i p₃ v₃ g₃ j₃ (refusal a at))
 unfolding outs replies
-task-undone {i} {p} {v} {g} {j} {p₃ = p₃} {v₃ = v₃} {g₃ = g₃} {j₃ = j₃} {t = t} {at = at} {pc₁ = pc₁} {a = a} {u = u} {w = w} l bp bv bg h f q =
+task-undone {i} {p} {v} {g} {j} {p₃ = p₃} {v₃ = v₃} {g₃ = g₃} {j₃ = j₃} {t = t} {at = at} {a = a} {pc₁ = pc₁} {u = u} {w = w} l bp bv bg h f q =
     let s : State = stateAt i p v g j at in
     let ss : List Store = beginStores (at .pc) (does t) pc₁ (s .mem) in
     let k : ℕ = u - at .used in
     let back : mem i p₃ v₃ g₃ j₃ w ≡ blanked k (s .mem) = q ∙ put-back h l (bytes-of (s .mem) bp bv bg) f in
     let same : mem i p₃ v₃ g₃ j₃ (at .used) ≡ blanked k (s .mem) = ap (λ (x : Mem). beside (x .journal) (at .used) x) back in
     record {
-      is = rw (ne-eqb a 0 f) (ap (λ (x : Mem). outcome (refused a (state (at .pc) x)) 0) same
-          ∙ ap (λ (o : Out (Unit {0})). settled s o ss) (rw (ne-eqb a 0 f) at (h .is)));
+      is = rw (ne-eqb (a .number) 0 f) (ap (λ (x : Mem). outcome (refused a (state (at .pc) x)) 0) same
+          ∙ ap (λ (o : Out (Unit {0})). settled s o ss) (rw (ne-eqb (a .number) 0 f) at (h .is)));
     }
 
 -- ---- the opcode read
 
 -- of a machine that has begun, by where it has
 pub from : {A : Type 0} {i p v g j : List ℕ} {n : Now} {pc u : ℕ} {r : Rule A} {a : A} {t : Stand} → n ≡ began pc u
-    → Goes (standing i p v g j n) r a t → Goes (stand 0 pc (mem i p v g j u)) r a t
+    → Goes (standing i p v g j n) r a t → Goes (stand well pc (mem i p v g j u)) r a t
 from {i = i} {p = p} {v = v} {g = g} {j = j} {r = r} {a = a} {t = t} e h = subst (λ (x : Now). Goes (standing i p v g j x) r a t) e h
 
 then-got : {A : Type 0} (o : Out A) → then o (λ v pc m. got v pc m) ≡ o
@@ -120,11 +123,11 @@ memOf-next : (pc : ℕ) (m : Mem) → memOf (perform next pc m) ≡ m
 unfolding perform
 memOf-next pc m = go (ltb pc (length (m .image)))
   where
-    go : (c : Bool) → memOf (pick c (got (getD (m .image) pc 0) (onward pc) m) (stopped (number offGrom) m)) ≡ m
+    go : (c : Bool) → memOf (pick c (got (getD (m .image) pc 0) (onward pc) m) (stopped (answerFor (offGrom pc)) m)) ≡ m
     go true = refl
     go false = refl
 
-module _ {b a pc₁ : ℕ} {s : State} {m : Mem} (g : Goes (stand 0 (s .pc) (s .mem)) nextByte b (stand a pc₁ m)) where
+module _ {b pc₁ : ℕ} {a : Answer} {s : State} {m : Mem} (g : Goes (stand well (s .pc) (s .mem)) nextByte b (stand a pc₁ m)) where
   next-is : perform next (s .pc) (s .mem) ≡ valued b (outs a pc₁ m)
   unfolding after outs exec
   next-is = sym (g .is ∙ then-got (perform next (s .pc) (s .mem)))
@@ -133,32 +136,32 @@ module _ {b a pc₁ : ℕ} {s : State} {m : Mem} (g : Goes (stand 0 (s .pc) (s .
   next-mem : {o : Out ℕ} → perform next (s .pc) (s .mem) ≡ o → memOf o ≡ s .mem
   next-mem e = sym (ap memOf e) ∙ memOf-next (s .pc) (s .mem)
 
-  missed : (a ≡ 0 → ⊥) → perform next (s .pc) (s .mem) ≡ stopped a (s .mem)
+  missed : (a .number ≡ 0 → ⊥) → perform next (s .pc) (s .mem) ≡ stopped a (s .mem)
   unfolding outs valued
   missed h =
-      let e : perform next (s .pc) (s .mem) ≡ stopped a m = rw (ne-eqb a 0 h) at next-is in
+      let e : perform next (s .pc) (s .mem) ≡ stopped a m = rw (ne-eqb (a .number) 0 h) at next-is in
       e ∙ ap (stopped a) (next-mem e)
 
-  read : a ≡ 0 → perform next (s .pc) (s .mem) ≡ got b pc₁ (s .mem)
+  read : a .number ≡ 0 → perform next (s .pc) (s .mem) ≡ got b pc₁ (s .mem)
   unfolding outs valued
   read z =
       let e : perform next (s .pc) (s .mem) ≡ got b pc₁ m = rw z at next-is in
       e ∙ ap (got b pc₁) (next-mem e)
 
-  attempt-missed : (a ≡ 0 → ⊥) → attempt s ≡ stopped a (s .mem)
+  attempt-missed : (a .number ≡ 0 → ⊥) → attempt s ≡ stopped a (s .mem)
   unfolding attempt
   attempt-missed h = rw (missed h)
 
-  attempt-is : a ≡ 0 → attempt s ≡ begin (s .pc) (classOf b) pc₁ (s .mem)
+  attempt-is : a .number ≡ 0 → attempt s ≡ begin (s .pc) (classOf b) pc₁ (s .mem)
   unfolding attempt
   attempt-is z = rw (read z)
 
-  stores-are : a ≡ 0 → stepStores s ≡ beginStores (s .pc) (classOf b) pc₁ (s .mem)
+  stores-are : a .number ≡ 0 → stepStores s ≡ beginStores (s .pc) (classOf b) pc₁ (s .mem)
   unfolding stepStores
   stores-are z = rw (read z)
 
   -- a task
-  pub step-does : {t : Task} {x : Returned walk.Reply} → a ≡ 0 → does t ≡ classOf b → Tells told (beginning t pc₁) s x → Tells told settling s x
+  pub step-does : {t : Task} {x : Returned walk.Reply} → a .number ≡ 0 → does t ≡ classOf b → Tells told (beginning t pc₁) s x → Tells told settling s x
   step-does z c e =
       record {
         is = e .is ∙ ap₂ (settled s) (ap (λ (x : Class). begin (s .pc) x pc₁ (s .mem)) c ∙ sym (attempt-is z))
@@ -166,18 +169,18 @@ module _ {b a pc₁ : ℕ} {s : State} {m : Mem} (g : Goes (stand 0 (s .pc) (s .
       }
 
 -- stopped before the mark
-untouched : {i p v g j : List ℕ} {at : At} {n : ℕ} → (n ≡ 0 → ⊥) → attempt (stateAt i p v g j at) ≡ stopped n (mem i p v g j (at .used))
-    → Tells told settling (stateAt i p v g j at) (returned i p v g j (refusal n at))
+untouched : {i p v g j : List ℕ} {at : At} {a : Answer} → (a .number ≡ 0 → ⊥) → attempt (stateAt i p v g j at) ≡ stopped a (mem i p v g j (at .used))
+    → Tells told settling (stateAt i p v g j at) (returned i p v g j (refusal a at))
 unfolding replies
-untouched {at = at} {n = n} h e = record { is = rw (ne-eqb n 0 h, e, sub-self (at .used)) }
+untouched {at = at} {a = a} h e = record { is = rw (ne-eqb (a .number) 0 h, e, sub-self (at .used)) }
 
-module _ {i p v g j : List ℕ} {at : At} {b a pc₁ : ℕ} {m : Mem} (h : Goes (stand 0 (at .pc) (mem i p v g j (at .used))) nextByte b (stand a pc₁ m)) where
+module _ {i p v g j : List ℕ} {at : At} {b pc₁ : ℕ} {a : Answer} {m : Mem} (h : Goes (stand well (at .pc) (mem i p v g j (at .used))) nextByte b (stand a pc₁ m)) where
   -- 6: no opcode
-  pub step-beyond : (a ≡ 0 → ⊥) → Tells told settling (stateAt i p v g j at) (returned i p v g j (refusal a at))
+  pub step-beyond : (a .number ≡ 0 → ⊥) → Tells told settling (stateAt i p v g j at) (returned i p v g j (refusal a at))
   step-beyond f = untouched f (attempt-missed h f)
 
   -- 1, 2 and 3
-  pub step-halted : {why : Why} → a ≡ 0 → stops why ≡ classOf b → Tells told settling (stateAt i p v g j at) (returned i p v g j (refusal (number why) at))
+  pub step-halted : {why : Why} → a .number ≡ 0 → stops why ≡ classOf b → Tells told settling (stateAt i p v g j at) (returned i p v g j (refusal (answerFor why) at))
   unfolding begin
   step-halted {why} z c = untouched (λ e. omega (arith, never-done why)) (attempt-is h z ∙ rw (sym c))
 
@@ -188,7 +191,7 @@ as-step s (got a pc m) = refl
 as-step s (stopped n m) = refl
 
 pub step-unfit : {i p v g j : List ℕ} {at : At} {t : Bool} → t ≡ fits (stateAt i p v g j at .mem) → t ≡ false
-    → Tells told stepping (stateAt i p v g j at) (returned i p v g j (refusal 11 at))
+    → Tells told stepping (stateAt i p v g j at) (returned i p v g j (refusal (answerFor wrongLength) at))
 unfolding step replies
 step-unfit e h = record { is = rw (sym e ∙ h) }
 

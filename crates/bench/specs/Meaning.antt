@@ -7,6 +7,7 @@ use lib.Dec.{eqb, leb}
 use lib.ListN.{length, take, drop}
 use denote.Ref.{RefT, now}
 use Rattle.rules.specs.Machine.{pick, Mem, mem, State, state}
+use Rattle.rules.specs.Answers.{Answer, saying}
 use Rattle.rules.specs.Journal.{Store, blanked}
 use Rattle.rules.specs.Rules.{Out, got, stopped}
 use Rattle.rules.specs.Opcodes.{Task, does}
@@ -60,33 +61,39 @@ returnedOf m r = returned (m .image) (m .pad) (m .vram) (m .regs) (m .journal) r
 abbrev pub standsAt : {A : Type 0} → Returned A → At → State
 standsAt x at = stateAt (x .image) (x .pad) (x .vram) (x .regs) (x .journal) at
 
--- ---- a step or a step back: a reply of the rules, and the number of byte stores
+-- ---- a step or a step back: a reply of the rules, its address, and the number of byte stores
 
 pub record Outcome : Type 0 where
   pub reply : calls.Reply
+  pub address : ℕ
   pub stores : ℕ
 
 abbrev pub outcome : calls.Reply → ℕ → Outcome
-outcome r n = record { reply = r; stores = n }
+outcome r n = record { reply = r; address = calls.answer r .address; stores = n }
 
--- an answer of 0 is a call that was done; any other is a refusal by that number
-unfoldable pub replies : ℕ → State → calls.Reply
-replies a s = pick (eqb a 0) (calls.done s) (calls.refused a s)
+-- an answer of 0 is a call that was done; any other is a refusal by that number, with its address
+unfoldable pub replies : Answer → State → calls.Reply
+replies a s = pick (eqb (a .number) 0) (calls.done s) (calls.refused a s)
 
 -- the state in which the next call finds the machine
 abbrev pub leaves : Returned walk.Reply → State
 leaves x = standsAt x (x .result .at)
 
 abbrev pub told : Returned walk.Reply → Outcome
-told x = outcome (replies (x .result .answer) (leaves x)) (x .result .stores)
+told x =
+    record {
+      reply = replies (saying (x .result .answer) (x .result .address)) (leaves x);
+      address = x .result .address;
+      stores = x .result .stores;
+    }
 
-abbrev pub refusal : ℕ → At → walk.Reply
-refusal a at = record { answer = a; stores = 0; at = at }
+abbrev pub refusal : Answer → At → walk.Reply
+refusal a at = record { answer = a .number; address = a .address; stores = 0; at = at }
 
 -- how an attempt is settled, with the number of its stores: "A refused step puts all back", and reports none
 abbrev pub settled : State → Out (Unit {0}) → List Store → Outcome
 settled s (got a pc m) ss = outcome (calls.done (state pc m)) (length ss)
-settled s (stopped n m) ss = outcome (calls.refused n (state (s .pc) (blanked (m .used - s .mem .used) (s .mem)))) 0
+settled s (stopped a m) ss = outcome (calls.refused a (state (s .pc) (blanked (m .used - s .mem .used) (s .mem)))) 0
 
 -- a task, its opcode read, past which is pc₁
 abbrev pub beginning : Task → ℕ → State → Outcome
@@ -110,11 +117,11 @@ backing s = outcome (calls.stepBack s) 0
 
 -- ---- a run: the rules' report
 
-abbrev pub noSteps : ℕ → At → runs.Report
-noSteps a at = record { answer = a; steps = 0; stores = 0; at = at }
+abbrev pub noSteps : Answer → At → runs.Report
+noSteps a at = record { answer = a .number; address = a .address; steps = 0; stores = 0; at = at }
 
 abbrev pub reported : Returned runs.Report → calls.Report
-reported x = calls.report (x .result .answer) (x .result .steps) (x .result .stores) (standsAt x (x .result .at))
+reported x = calls.report (saying (x .result .answer) (x .result .address)) (x .result .steps) (x .result .stores) (standsAt x (x .result .at))
 
 -- ---- what a contract says
 

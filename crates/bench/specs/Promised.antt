@@ -4,6 +4,7 @@ use mathlib.Core.List.{List, [], _∷_}
 use Prim.Native.Nat.{ℕ, suc, _+_, _-_, _<_}
 use lib.Dec.{eqb}
 use Rattle.rules.specs.Machine.{pick, State}
+use Rattle.rules.specs.Answers.{saying}
 use Rattle.rules.specs.Calls.{run}
 use Rattle.rules.specs.Demands.{BackCause, total, Demand3}
 use Rattle.bench.specs.declared.walk.Reply as walk
@@ -68,4 +69,4 @@ pub record Keeps (s₀ : State) (c : Count) (s : State) : Type 0 where
   pub stores : c .stores ≡ total (c .steps) s₀
   -- "A step-back is refused only when no such step is left.": the answer of the next one
   pub some-left : {x : Returned walk.Reply} → Tells told backing s x → 0 < c .steps → x .result .answer ≡ 0
-  pub none-left : {x : Returned walk.Reply} → Tells told backing s x → c .steps ≡ 0 → BackCause s (x .result .answer)
+  pub none-left : {x : Returned walk.Reply} → Tells told backing s x → c .steps ≡ 0 → BackCause s (saying (x .result .answer) (x .result .address))

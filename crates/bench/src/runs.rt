@@ -5,15 +5,17 @@ use crate::walk;
 use machine::answers;
 use machine::answers::Why;
 ghost use mathlib.Core.Path.{_≡_};
-ghost use Rattle.rules.specs.Answers.{number};
+ghost use Rattle.rules.specs.Answers.{answerFor};
 ghost use Rattle.rules.specs.Calls;
 ghost use Rattle.rules.specs.Calls.{steps};
 ghost use Rattle.machine.specs.Meaning.{whyOf, _&_, Image, Journal, Pad, Regs, Vram};
 ghost use Rattle.bench.specs.Meaning.{noSteps, Fits, Reports};
 
-// What a run leaves: its answer, how many steps were done, how many bytes these stored, and where the machine stands.
+// What a run leaves: its answer, with the address that was turned down or 0, how many steps were done, how many bytes these stored, and where
+// the machine stands.
 pub struct Report {
     pub answer: u8,
+    pub address: u16,
     pub steps: u32,
     pub stores: u64,
     pub at: At,
@@ -21,10 +23,11 @@ pub struct Report {
 
 // No step was made.
 fn turned_down(why: Why, at: At) -> Report
-    ensures { λ r. ⌜ r ≡ noSteps (number (whyOf why)) at ⌝ }
+    ensures { λ r. ⌜ r ≡ noSteps (answerFor (whyOf why)) at ⌝ }
 {
     Report {
         answer: answers::number(why),
+        address: answers::address(why),
         steps: 0,
         stores: 0,
         at,
@@ -53,6 +56,7 @@ fn fit_run(
         if r.answer != 0 {
             return Report {
                 answer: r.answer,
+                address: r.address,
                 steps: done,
                 stores,
                 at: here,
@@ -63,6 +67,7 @@ fn fit_run(
     }
     Report {
         answer: 0,
+        address: 0,
         steps: done,
         stores,
         at: here,

@@ -8,32 +8,34 @@ use machine::state::Now;
 use opcode::class::Class;
 use opcode::class::Task;
 ghost use mathlib.Core.Path.{_≡_};
-ghost use Rattle.rules.specs.Answers.{number};
+ghost use Rattle.rules.specs.Answers.{saying, answerFor};
 ghost use Rattle.opcode.specs.Meaning.{taskOf};
 ghost use Rattle.machine.specs.Meaning.{whyOf, _&_, Image, Journal, Pad, Regs, Vram};
 ghost use Rattle.bench.specs.Meaning.{Fit, Attempts, Replies, refusal, beginning, settling, stepping, undoing, backing};
 
-// What a call leaves: its answer, how many bytes it stored, and where the machine stands.
+// What a call leaves: its answer, with the address that was turned down or 0, how many bytes it stored, and where the machine stands.
 pub struct Reply {
     pub answer: u8,
+    pub address: u16,
     pub stores: u64,
     pub at: At,
 }
 
-fn refused(answer: u8, at: At) -> Reply
-    ensures { λ r. ⌜ r ≡ refusal answer at ⌝ }
+fn refused(answer: u8, address: u16, at: At) -> Reply
+    ensures { λ r. ⌜ r ≡ refusal (saying answer address) at ⌝ }
 {
     Reply {
         answer,
+        address,
         stores: 0,
         at,
     }
 }
 
 fn turned_down(why: Why, at: At) -> Reply
-    ensures { λ r. ⌜ r ≡ refusal (number (whyOf why)) at ⌝ }
+    ensures { λ r. ⌜ r ≡ refusal (answerFor (whyOf why)) at ⌝ }
 {
-    refused(answers::number(why), at)
+    refused(answers::number(why), answers::address(why), at)
 }
 
 // ---- a step
@@ -77,12 +79,13 @@ fn do_task(
         let stores = taken - 1;
         return Reply {
             answer: 0,
+            address: 0,
             stores: stores as u64,
             at: at::reached(m),
         };
     }
     machine::journal::undo(pad, vram, regs, journal, top, taken);
-    refused(m.answer, at)
+    refused(m.answer, m.address, at)
 }
 
 // A step past test 11: the opcode, and its class.
@@ -99,7 +102,7 @@ pub(crate) fn fit_step(
 {
     let op = machine::grom::next_byte(image, at::begin(at, at.pc));
     if op.answer != 0 {
-        return refused(op.answer, at);
+        return refused(op.answer, op.address, at);
     }
     let class = opcode::class::class_of(op.byte);
     match class {
@@ -151,6 +154,7 @@ fn fit_back(pad: &mut [u8], vram: &mut [u8], regs: &mut [u8], journal: &mut [u32
     };
     Reply {
         answer: 0,
+        address: 0,
         stores: 0,
         at: back,
     }

@@ -7,18 +7,18 @@ use Rattle.lines.specs.Ascii.{ascii}
 use Rattle.lines.specs.Digits.{before, digit, glyph, numeralFrom, numeral, upTo, digitsOf, widthIn, width, showDecimal, showHex}
 use Rattle.lines.specs.Digits.{byteOf, bytes, allHex, byteCount, begins, laid}
 use Rattle.lines.specs.Lines.{placed, setLine, jumping, pcLine, running, runLine, goLine, lineOf}
-use Rattle.lines.specs.Shown.{answerLine, pcText, cellText, changed, runLines, badLine}
+use Rattle.lines.specs.Shown.{countsText, answerLine, pcText, cellText, changed, runLines, badLine}
 use Rattle.desk.specs.Desk.{cut, heard, told, whole}
 
 -- names each definition once
 unfoldable everyLine : Unit {0}
 unfolding everyRule before digit glyph numeralFrom numeral upTo digitsOf widthIn width showDecimal showHex byteOf bytes allHex byteCount begins laid
-    placed setLine jumping pcLine running runLine goLine lineOf answerLine pcText cellText changed runLines badLine cut heard told whole
+    placed setLine jumping pcLine running runLine goLine lineOf countsText answerLine pcText cellText changed runLines badLine cut heard told whole
 everyLine = tt
 
--- what 01 gives as an example
+-- what 01 gives as an example, with the fourth number of 02, item 2
 pub sample : whole (ascii "grom\t0000\t08412AFB\npad\t7E\t171F\nrun\t1\n")
-    ≡ ascii "answer\t0\t1\t8\npc\t0004\npad\t7E\t00\npad\t7F\t01\nvdp\t0000\t2A\nvdp\t02FF\t2A\n"
+    ≡ ascii "answer\t0\t1\t8\t0000\npc\t0004\npad\t7E\t00\npad\t7F\t01\nvdp\t0000\t2A\nvdp\t02FF\t2A\n"
 unfolding everyLine
 sample = refl
 

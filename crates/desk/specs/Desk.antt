@@ -31,7 +31,7 @@ obeyed bad s = s
 abbrev pub runText : Mem → Report → List ℕ
 runText m r =
     let e : Mem = r .end .mem in
-    runLines (r .answer) (r .steps) (r .stores) (r .end .pc) (m .pad) (e .pad) (m .vram) (e .vram) (m .regs) (e .regs)
+    runLines (r .answer .number) (r .steps) (r .stores) (r .answer .address) (r .end .pc) (m .pad) (e .pad) (m .vram) (e .vram) (m .regs) (e .regs)
 
 -- what a line prints, by its number: "A line not so, or past its part: `bad`, its number from 1"
 abbrev pub printed : ℕ → Line → State → List ℕ

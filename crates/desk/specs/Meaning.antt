@@ -46,7 +46,7 @@ Obeys k l parts out at r =
 -- its report, with pad, VDP RAM and registers before it and after it
 abbrev pub reportText : Report → Lent → Lent → Lent → Lent → Lent → Lent → List ℕ
 reportText r p₀ p v₀ v g₀ g =
-    runLines (r .answer) (r .steps) (r .stores) (r .at .pc)
+    runLines (r .answer) (r .steps) (r .stores) (r .address) (r .at .pc)
     (now (p₀ .entry)) (now (p .entry)) (now (v₀ .entry)) (now (v .entry)) (now (g₀ .entry)) (now (g .entry))
 
 -- ---- an input, of which a text has been read

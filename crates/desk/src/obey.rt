@@ -58,7 +58,7 @@ fn run_shown(
     journal: &mut [u32; 16384],
     at: At,
     n: u32,
-    out: &mut [u8; 216502],
+    out: &mut [u8; 216507],
 ) -> Stand
     ensures { λ r. ⌜ ((k : ℕ) → Obeys k (runs n) (Image image & Pad pad & Vram vram & Regs regs & Journal journal) out at r) ⌝ }
 {
@@ -95,7 +95,7 @@ pub fn obey(
     regs: &mut [u8; 8],
     journal: &mut [u32; 16384],
     at: At,
-    out: &mut [u8; 216502],
+    out: &mut [u8; 216507],
 ) -> Stand
     ensures { λ r. ⌜ Obeys number (heard (now (text .entry))) (Image image & Pad pad & Vram vram & Regs regs & Journal journal) out at r ⌝ }
 {

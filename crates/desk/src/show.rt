@@ -7,10 +7,10 @@ ghost use lib.ListN.{length};
 ghost use Rattle.lines.specs.Shown.{Front};
 ghost use Rattle.desk.specs.Meaning.{reportText};
 
-// Its answer, its pc, and each cell that it changed; `pad0`, `vram0` and `regs0` are the parts before it. 216,502 bytes are enough: 78 for two
+// Its answer, its pc, and each cell that it changed; `pad0`, `vram0` and `regs0` are the parts before it. 216,507 bytes are enough: 83 for two
 // lines, 13 for each cell.
 pub fn put_run(
-    out: &mut [u8; 216502],
+    out: &mut [u8; 216507],
     r: Report,
     pad0: &[u8; 256],
     pad: &[u8; 256],
@@ -21,7 +21,7 @@ pub fn put_run(
 ) -> usize
     ensures { λ k. ⌜ Front (reportText r pad0 pad vram0 vram regs0 regs) (now (out .exit)) k ⌝ }
 {
-    let a = print::put_answer(out, 0, r.answer, r.steps, r.stores);
+    let a = print::put_answer(out, 0, r.answer, r.steps, r.stores, r.address);
     let b = print::put_pc(out, a, r.at.pc);
     let c = print::put_changed(out, b, Part::Pad, pad0, pad);
     let d = print::put_changed(out, c, Part::Vdp, vram0, vram);

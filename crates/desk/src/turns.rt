@@ -41,7 +41,7 @@ pub fn next_text(
     vram: &mut [u8; 16384],
     regs: &mut [u8; 8],
     journal: &mut [u32; 16384],
-    out: &mut [u8; 216502],
+    out: &mut [u8; 216507],
 ) -> Turn
     requires { ⌜ Numbered (now text) from ⌝ }
     ensures { λ r. ⌜ Turns ended text from (Image image & Pad pad & Vram vram & Regs regs & Journal journal) out r ⌝ }

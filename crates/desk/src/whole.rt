@@ -21,7 +21,7 @@ fn obey_text(
     vram: &mut [u8; 16384],
     regs: &mut [u8; 8],
     journal: &mut [u32; 16384],
-    out: &mut [u8; 216502],
+    out: &mut [u8; 216507],
 ) -> Turn
     requires { ⌜ Numbered (now text) from ⌝ }
     ensures { λ r. ⌜ Speaks ended text from (Image image & Pad pad & Vram vram & Regs regs & Journal journal) r ⌝ }
@@ -53,7 +53,7 @@ fn obey_input(
     vram: &mut [u8; 16384],
     regs: &mut [u8; 8],
     journal: &mut [u32; 16384],
-    out: &mut [u8; 216502],
+    out: &mut [u8; 216507],
 )
     requires { ⌜ (length (now text) ≡ 65547) × (stateAt (now image) (now pad) (now vram) (now regs) (now journal) outset ≡ start) ⌝ }
 {
@@ -86,7 +86,7 @@ pub fn obey_all(fd: i32) {
     let mut vram = [0u8; 16384];
     let mut regs = [0u8; 8];
     let mut journal = [0u32; 16384];
-    let mut out = [0u8; 216502];
+    let mut out = [0u8; 216507];
     obey_input(
         fd,
         &mut text,

@@ -9,14 +9,15 @@ use Rattle.rules.specs.Calls.{Report}
 use Rattle.bench.specs.Meaning.{Returned, returnedOf, Tells}
 use Rattle.export.specs.Meaning.{Numbers, heard, Shows}
 
--- `out` is an array of four
-four : (l : List ℕ) → length l ≡ 4 → getD l 0 0 ∷ getD l 1 0 ∷ getD l 2 0 ∷ getD l 3 0 ∷ [] ≡ l
-four [] e = absurd (omega arith)
-four (a ∷ []) e = absurd (omega arith)
-four (a ∷ b ∷ []) e = absurd (omega arith)
-four (a ∷ b ∷ c ∷ []) e = absurd (omega arith)
-four (a ∷ b ∷ c ∷ d ∷ []) e = refl
-four (a ∷ b ∷ c ∷ d ∷ x ∷ l) e = absurd (omega arith)
+-- `out` is an array of five
+five : (l : List ℕ) → length l ≡ 5 → getD l 0 0 ∷ getD l 1 0 ∷ getD l 2 0 ∷ getD l 3 0 ∷ getD l 4 0 ∷ [] ≡ l
+five [] e = absurd (omega arith)
+five (a ∷ []) e = absurd (omega arith)
+five (a ∷ b ∷ []) e = absurd (omega arith)
+five (a ∷ b ∷ c ∷ []) e = absurd (omega arith)
+five (a ∷ b ∷ c ∷ d ∷ []) e = absurd (omega arith)
+five (a ∷ b ∷ c ∷ d ∷ x ∷ []) e = refl
+five (a ∷ b ∷ c ∷ d ∷ x ∷ y ∷ l) e = absurd (omega arith)
 
 -- what is returned can be read off the report that it makes
 numbers : Returned Numbers → List ℕ → Returned Numbers
@@ -31,14 +32,14 @@ numbers x l =
     }
 
 read : Report → Returned Numbers
-read r = returnedOf (r .end .mem) (record { answer = r .answer; out = r .end .pc ∷ r .end .mem .used ∷ r .steps ∷ r .stores ∷ [] })
+read r = returnedOf (r .end .mem) (record { answer = r .answer .number; out = r .end .pc ∷ r .end .mem .used ∷ r .steps ∷ r .stores ∷ r .answer .address ∷ [] })
 
-read-heard : (x : Returned Numbers) → length (x .result .out) ≡ 4 → read (heard x) ≡ x
+read-heard : (x : Returned Numbers) → length (x .result .out) ≡ 5 → read (heard x) ≡ x
 unfolding read heard numbers
-read-heard x e = ap (numbers x) (four (x .result .out) e)
+read-heard x e = ap (numbers x) (five (x .result .out) e)
 
 -- a step, a run, a step back
-pub heard-determined : {f : State → Report} {s : State} {x y : Returned Numbers} → length (x .result .out) ≡ 4 → length (y .result .out) ≡ 4
+pub heard-determined : {f : State → Report} {s : State} {x y : Returned Numbers} → length (x .result .out) ≡ 5 → length (y .result .out) ≡ 5
     → Tells heard f s x → Tells heard f s y → x ≡ y
 heard-determined {x = x} {y = y} e k h l = sym (read-heard x e) ∙ ap read (h .is ∙ sym (l .is)) ∙ read-heard y k
 

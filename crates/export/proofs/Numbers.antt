@@ -8,48 +8,48 @@ use lib.Dec.{eqb}
 use lib.ListN.{length}
 use borrow.Author.Tests.{ne-eqb}
 use Rattle.rules.specs.Machine.{pick, State}
-use Rattle.rules.specs.Answers.{number, wrongLength}
-use Rattle.rules.specs.Calls.{fits, Reply, done, refused, left, step, stepStores, made, Report, report, onto, steps, run}
+use Rattle.rules.specs.Answers.{saying, well, answerFor, wrongLength}
+use Rattle.rules.specs.Calls.{fits, Reply, done, refused, answer, left, step, stepStores, made, Report, report, onto, steps, run}
 use Rattle.rules.proofs.Fits.{step-unfit}
 use Rattle.bench.specs.declared.walk.Reply as walk
 use Rattle.bench.specs.declared.runs.Report as runs
-use Rattle.bench.specs.Meaning.{stateAt, Returned, returned, Outcome, outcome, replies, told, stepping, reported, Tells}
+use Rattle.bench.specs.Meaning.{stateAt, Returned, returned, Outcome, replies, told, stepping, reported, Tells}
 use Rattle.export.specs.Meaning.{Numbers, heard, tallied, counted, oneStep}
 
 -- ---- the report of a run, and the reply of a step back
 
-tally : (a n : ℕ) (s : State) → report a (pick (eqb a 0) 1 0) n s ≡ counted (outcome (replies a s) n)
-unfolding counted replies
-tally zero n s = refl
-tally (suc a) n s = rw (ne-eqb (suc a) 0 (λ e. omega arith))
+tally : (a d n : ℕ) (s : State) → report (saying a d) (pick (eqb a 0) 1 0) n s ≡ tallied (replies (saying a d) s) d n
+unfolding replies
+tally zero d n s = refl
+tally (suc a) d n s = rw (ne-eqb (suc a) 0 (λ e. omega arith))
 
 module _ {i p v g j out : List ℕ} {s : State} where
-  pub heard-report : {f : State → Report} {r : runs.Report} → out ≡ r .at .pc ∷ r .at .used ∷ r .steps ∷ r .stores ∷ []
+  pub heard-report : {f : State → Report} {r : runs.Report} → out ≡ r .at .pc ∷ r .at .used ∷ r .steps ∷ r .stores ∷ r .address ∷ []
       → Tells reported f s (returned i p v g j r) → Tells heard f s (returned i p v g j (record { answer = r .answer; out = out }))
   unfolding heard
   heard-report e h = record { is = rw e (h .is) }
 
-  pub heard-reply : {f : State → Outcome} {r : walk.Reply} {k : ℕ} → out ≡ r .at .pc ∷ r .at .used ∷ k ∷ r .stores ∷ []
+  pub heard-reply : {f : State → Outcome} {r : walk.Reply} {k : ℕ} → out ≡ r .at .pc ∷ r .at .used ∷ k ∷ r .stores ∷ r .address ∷ []
       → k ≡ pick (eqb (r .answer) 0) 1 0 → Tells told f s (returned i p v g j r)
       → Tells heard (λ (t : State). counted (f t)) s (returned i p v g j (record { answer = r .answer; out = out }))
-  unfolding heard
-  heard-reply {r = r} e q h = record { is = rw (e, q) (tally (r .answer) (r .stores) (stateAt i p v g j (r .at)) ∙ ap counted (h .is)) }
+  unfolding heard counted
+  heard-reply {r = r} e q h = record { is = rw (e, q) (tally (r .answer) (r .address) (r .stores) (stateAt i p v g j (r .at)) ∙ ap counted (h .is)) }
 
 -- ---- a run of one step is a step
 
 module _ (s : State) where
-  once : (q : Reply) → onto q (length (stepStores s)) (report 0 0 0 (left q)) ≡ tallied q (made s q)
+  once : (q : Reply) → onto q (length (stepStores s)) (report well 0 0 (left q)) ≡ tallied q (answer q .address) (made s q)
   once (done t) =
       let n : ℕ = length (stepStores s) in
       let e : n + 0 ≡ n = omega arith in
-      ap (λ (x : ℕ). report 0 1 x t) e
+      ap (λ (x : ℕ). report well 1 x t) e
   once (refused a t) = refl
 
   run-once : run 1 s ≡ counted (stepping s)
   unfolding run steps counted
   run-once = go (fits (s .mem)) refl
     where
-      go : (c : Bool) → fits (s .mem) ≡ c → pick c (steps 1 s) (report (number wrongLength) 0 0 s) ≡ tallied (step s) (made s (step s))
+      go : (c : Bool) → fits (s .mem) ≡ c → pick c (steps 1 s) (report (answerFor wrongLength) 0 0 s) ≡ tallied (step s) (answer (step s) .address) (made s (step s))
       go true e = once (step s)
       go false e = rw (step-unfit s e)
 

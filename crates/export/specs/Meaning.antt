@@ -6,11 +6,12 @@ use lib.Dec.{eqb}
 use lib.ListN.{length, getD, take, drop}
 use denote.Ref.{now}
 use Rattle.rules.specs.Machine.{pick, State}
+use Rattle.rules.specs.Answers.{saying}
 use Rattle.rules.specs.Calls as calls
 use Rattle.machine.specs.Meaning.{Lent, Parts, unseenAll}
 use Rattle.bench.specs.Meaning.{Returned, standsAt, Outcome, stepping, backing, Returns}
 
--- ---- steps: the answer, and `out` with pc, used words, steps and stores
+-- ---- steps: the answer, and `out` with pc, used words, steps, stores and address
 
 pub record Numbers : Type 0 where
   pub answer : ℕ
@@ -20,19 +21,19 @@ pub record Numbers : Type 0 where
 unfoldable pub heard : Returned Numbers → calls.Report
 heard x =
     let out : List ℕ = x .result .out in
-    calls.report (x .result .answer) (getD out 2 0) (getD out 3 0) (standsAt x (record { pc = getD out 0 0; used = getD out 1 0 }))
+    calls.report (saying (x .result .answer) (getD out 4 0)) (getD out 2 0) (getD out 3 0) (standsAt x (record { pc = getD out 0 0; used = getD out 1 0 }))
 
 -- an address and the used words go in; the answer and `out` are what the rules say of the parts lent
 abbrev pub Hears : (State → calls.Report) → (Parts → Parts) → ℕ → ℕ → ℕ → Lent → Type 0
 Hears f parts pc used answer out = Returns heard f (parts unseenAll) (record { pc = pc; used = used }) (record { answer = answer; out = now (out .exit) })
 
 -- a reply as a report: one step where it was done, none where it was refused
-abbrev pub tallied : calls.Reply → ℕ → calls.Report
-tallied (calls.done t) n = calls.report 0 1 n t
-tallied (calls.refused a t) n = calls.report a 0 n t
+abbrev pub tallied : calls.Reply → ℕ → ℕ → calls.Report
+tallied (calls.done t) d n = calls.report (saying 0 d) 1 n t
+tallied (calls.refused a t) d n = calls.report (saying (a .number) d) 0 n t
 
 unfoldable pub counted : Outcome → calls.Report
-counted o = tallied (o .reply) (o .stores)
+counted o = tallied (o .reply) (o .address) (o .stores)
 
 abbrev pub oneStep : State → calls.Report
 oneStep s = counted (stepping s)

@@ -12,11 +12,11 @@ ghost use Rattle.export.specs.Meaning.{Hears, oneStep, oneBack, Shows, s
 
 // ---- steps
 
-// The four numbers in their order.
-fn tell(out: &mut [u64; 4], at: At, steps: u64, stores: u64)
-    ensures { λ _. ⌜ now (out .exit) ≡ at .pc ∷ at .used ∷ steps ∷ stores ∷ [] ⌝ }
+// The five numbers in their order.
+fn tell(out: &mut [u64; 5], at: At, steps: u64, stores: u64, address: u16)
+    ensures { λ _. ⌜ now (out .exit) ≡ at .pc ∷ at .used ∷ steps ∷ stores ∷ address ∷ [] ⌝ }
 {
-    *out = [at.pc as u64, at.used as u64, steps, stores];
+    *out = [at.pc as u64, at.used as u64, steps, stores, address as u64];
 }
 
 // A call that was done is one step.
@@ -36,7 +36,7 @@ pub extern "C" fn argolythe_step(
     journal: &mut [u32],
     pc: u16,
     used: usize,
-    out: &mut [u64; 4],
+    out: &mut [u64; 5],
 ) -> u8
     ensures { λ r. ⌜ Hears oneStep (Image image & Pad pad & Vram vdp & Regs reg & Journal journal) pc used r out ⌝ }
 {
@@ -54,14 +54,14 @@ pub extern "C" fn argolythe_run(
     pc: u16,
     used: usize,
     n: u32,
-    out: &mut [u64; 4],
+    out: &mut [u64; 5],
 ) -> u8
     ensures { λ r. ⌜ Hears (run n) (Image image & Pad pad & Vram vdp & Regs reg & Journal journal) pc used r out ⌝ }
 {
     let r = bench::runs::run(image, pad, vdp, reg, journal, At { pc, used }, n);
     let steps = r.steps as u64;
     let at = r.at;
-    tell(out, at, steps, r.stores);
+    tell(out, at, steps, r.stores, r.address);
     r.answer
 }
 
@@ -74,14 +74,14 @@ pub extern "C" fn argolythe_step_back(
     journal: &mut [u32],
     pc: u16,
     used: usize,
-    out: &mut [u64; 4],
+    out: &mut [u64; 5],
 ) -> u8
     ensures { λ r. ⌜ Hears oneBack (Pad pad & Vram vdp & Regs reg & Journal journal) pc used r out ⌝ }
 {
     let r = bench::walk::step_back(pad, vdp, reg, journal, At { pc, used });
     let steps = steps_of(r.answer);
     let at = r.at;
-    tell(out, at, steps, r.stores);
+    tell(out, at, steps, r.stores, r.address);
     r.answer
 }
 

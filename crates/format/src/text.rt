@@ -126,8 +126,9 @@ pub fn cpu_operand(image: &[u8], pad: &mut [u8], journal: &mut [u32], m: Now) ->
     let o = operand::decode::operand(image, pad, journal, m, 1);
     let at = operand::places::now_of(o);
     let place = operand::places::place_of(o);
-    let sound = machine::state::need(at, is_cpu(place), Why::OffCpu);
-    machine::state::give_word(sound, offset_of(place))
+    let a = offset_of(place);
+    let sound = machine::state::need(at, is_cpu(place), Why::OffCpu(a));
+    machine::state::give_word(sound, a)
 }
 
 fn show_cell(

@@ -10,7 +10,7 @@ const MOVE_8000: [u8; 7] = [0x31, 0x80, 0x00, 0xA0, 0x00, 0x00, 0x00];
 const MOVE_8001: [u8; 7] = [0x31, 0x80, 0x01, 0xA0, 0x00, 0x00, 0x00];
 
 // A heading, and the first bytes of what a run printed.
-fn write_run(what: &[u8], out: &[u8; 216502], count: usize)
+fn write_run(what: &[u8], out: &[u8; 216507], count: usize)
     requires { ⌜ count ≤ length (now out) ⌝ }
 {
     io::write_all(1, what);
@@ -22,7 +22,7 @@ fn show_run(what: &[u8], r: Report, pad: &[u8; 256], vram: &[u8; 16384], regs: &
     let mut pad0 = [0u8; 256];
     let vram0 = [0u8; 16384];
     let regs0 = [0u8; 8];
-    let mut out = [0u8; 216502];
+    let mut out = [0u8; 216507];
     pad0[0x73] = 0x7E;
     let count = desk::show::put_run(&mut out, r, &pad0, pad, &vram0, vram, &regs0, regs);
     write_run(what, &out, count);
@@ -53,6 +53,7 @@ fn try_step_back(what: &[u8], low: u32, high: u32, used: usize) {
     let there = b.at;
     let r = Report {
         answer: b.answer,
+        address: b.address,
         steps: 0,
         stores: b.stores,
         at: there,

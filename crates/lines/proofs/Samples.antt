@@ -8,7 +8,7 @@ use Rattle.lines.specs.Ascii.{ascii}
 use Rattle.lines.specs.Digits.{before, digit, glyph, numeralFrom, numeral, upTo, digitsOf, widthIn, width, showDecimal, showHex}
 use Rattle.lines.specs.Digits.{byteOf, bytes, allHex, byteCount, begins, laid}
 use Rattle.lines.specs.Lines.{grom, pad, sets, runs, bad, placed, setLine, jumping, pcLine, running, runLine, goLine, lineOf}
-use Rattle.lines.specs.Shown.{answerLine, pcText, cellText, changed, runLines, badLine}
+use Rattle.lines.specs.Shown.{countsText, answerLine, pcText, cellText, changed, runLines, badLine}
 
 -- "grom 0000 08412AFB, pad 7E 171F, run 1"
 pub sample-read : map lineOf (ascii "grom\t0000\t08412AFB" ∷ ascii "pad\t7E\t171F" ∷ ascii "run\t1" ∷ [])
@@ -30,9 +30,9 @@ abbrev vdpIs : List ℕ
 vdpIs = laid (laid vdpWas 0 (0x2A ∷ [])) 0x2FF (0x2A ∷ [])
 
 -- what it prints, and the line for a twelfth line that says nothing
-pub sample-printed : runLines 0 1 8 4 padWas padIs vdpWas vdpIs [] [] ++ badLine 12
-    ≡ ascii "answer\t0\t1\t8\npc\t0004\npad\t7E\t00\npad\t7F\t01\nvdp\t0000\t2A\nvdp\t02FF\t2A\nbad\t12\n"
-unfolding laid glyph digitsOf widthIn width showDecimal showHex answerLine pcText cellText changed runLines badLine
+pub sample-printed : runLines 0 1 8 0 4 padWas padIs vdpWas vdpIs [] [] ++ badLine 12
+    ≡ ascii "answer\t0\t1\t8\t0000\npc\t0004\npad\t7E\t00\npad\t7F\t01\nvdp\t0000\t2A\nvdp\t02FF\t2A\nbad\t12\n"
+unfolding laid glyph digitsOf widthIn width showDecimal showHex countsText answerLine pcText cellText changed runLines badLine
 sample-printed = refl
 
 -- no line, a space, a carriage return, a small letter, an odd digit, no bytes, a field too many, past the end, three digits, no number, 2^32

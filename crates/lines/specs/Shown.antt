@@ -15,9 +15,12 @@ abbrev pub feed : List ℕ
 feed = ascii "\n"
 
 -- `answer`, the answer, steps, stores
-unfoldable pub answerLine : ℕ → ℕ → ℕ → List ℕ
-answerLine answer steps stores =
-    ascii "answer\t" ++ showDecimal answer ++ (tab ∷ []) ++ showDecimal steps ++ (tab ∷ []) ++ showDecimal stores ++ feed
+unfoldable pub countsText : ℕ → ℕ → ℕ → List ℕ
+countsText answer steps stores = ascii "answer\t" ++ showDecimal answer ++ (tab ∷ []) ++ showDecimal steps ++ (tab ∷ []) ++ showDecimal stores
+
+-- 02, item 2: the address is "the answer line's fourth number, in hex"
+unfoldable pub answerLine : ℕ → ℕ → ℕ → ℕ → List ℕ
+answerLine answer steps stores address = countsText answer steps stores ++ (tab ∷ []) ++ showHex 4 address ++ feed
 
 -- `pc` and the program address, without the line feed
 unfoldable pub pcText : ℕ → List ℕ
@@ -44,9 +47,9 @@ changed p at (b ∷ was) [] = []
 changed p at (b ∷ was) (c ∷ is) = cond (eqb b c) [] (cellLine p at c) ++ changed p (suc at) was is
 
 -- "It prints answer, steps, stores; pc; each cell changed, ascending, pad, vdp, reg": each part as it was and as it is
-unfoldable pub runLines : ℕ → ℕ → ℕ → ℕ → List ℕ → List ℕ → List ℕ → List ℕ → List ℕ → List ℕ → List ℕ
-runLines answer steps stores pc padWas padIs vdpWas vdpIs regWas regIs =
-    answerLine answer steps stores ++ pcLine pc ++ changed pad 0 padWas padIs ++ changed vdp 0 vdpWas vdpIs ++ changed reg 0 regWas regIs
+unfoldable pub runLines : ℕ → ℕ → ℕ → ℕ → ℕ → List ℕ → List ℕ → List ℕ → List ℕ → List ℕ → List ℕ → List ℕ
+runLines answer steps stores address pc padWas padIs vdpWas vdpIs regWas regIs =
+    answerLine answer steps stores address ++ pcLine pc ++ changed pad 0 padWas padIs ++ changed vdp 0 vdpWas vdpIs ++ changed reg 0 regWas regIs
 
 -- a text of at most so many bytes put at a place of a buffer, whose rest stays as it was; `past` is the place past it
 pub record Puts (most : ℕ) (was : List ℕ) (at : ℕ) (text is : List ℕ) (past : ℕ) : Type 0 where

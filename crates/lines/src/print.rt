@@ -77,17 +77,34 @@ fn put_opening(out: &mut [u8], at: usize, part: Part) -> usize
 }
 
 // The answer of a run, its steps and its stores.
-pub fn put_answer(out: &mut [u8], at: usize, answer: u8, steps: u32, stores: u64) -> usize
-    requires { ⌜ at + 70 ≤ length (now out) ⌝ }
-    ensures { λ r. ⌜ Prints 70 (Shown.answerLine answer steps stores) out at r ⌝ }
+fn put_counts(out: &mut [u8], at: usize, answer: u8, steps: u32, stores: u64) -> usize
+    requires { ⌜ at + 69 ≤ length (now out) ⌝ }
+    ensures { λ r. ⌜ Prints 69 (Shown.countsText answer steps stores) out at r ⌝ }
 {
     let a = put_word(out, at, b"answer\t");
     let b = put_decimal(out, a, answer as u64);
     let c = put_word(out, b, b"\t");
     let d = put_decimal(out, c, steps as u64);
     let e = put_word(out, d, b"\t");
-    let f = put_decimal(out, e, stores);
-    put_word(out, f, b"\n")
+    put_decimal(out, e, stores)
+}
+
+// And the address that was turned down.
+pub fn put_answer(
+    out: &mut [u8],
+    at: usize,
+    answer: u8,
+    steps: u32,
+    stores: u64,
+    address: u16,
+) -> usize
+    requires { ⌜ at + 75 ≤ length (now out) ⌝ }
+    ensures { λ r. ⌜ Prints 75 (Shown.answerLine answer steps stores address) out at r ⌝ }
+{
+    let a = put_counts(out, at, answer, steps, stores);
+    let b = put_word(out, a, b"\t");
+    let c = put_digits(out, b, 16, 4, address as u64);
+    put_word(out, c, b"\n")
 }
 
 // The program address.

@@ -11,6 +11,7 @@ use lib.ListN.{length, getD, set}
 use borrow.Author.Tests.{ne-eqb, lt-ltb, le-ltb, ltb-true}
 use Rattle.rules.specs.Machine.{Kind, reach, Mem, mem, put, beside}
 use Rattle.rules.specs.Journal.{kindNumber, markWord, Note, mark, stoodIn, noteOf, note, sound, restore, zeroTop, undoTop, undo}
+use Rattle.rules.specs.Answers.{Answer, saying, answerFor, noRoom}
 use Rattle.rules.specs.Rules.{then}
 use Rattle.rules.specs.Calls.{takeMark, Find, found, lost, further, passed, seen, scan}
 use Rattle.rules.proofs.Undo.{noteOf-kind, restore-beside}
@@ -29,17 +30,17 @@ granted false h = absurd (let z : _≡_ {A = ℕ} 0 1 = cc in omega arith)
 
 -- ---- a mark taken
 
-pub mark-still : (pc a pc₁ : ℕ) (m : Mem) → (a ≡ 0 → ⊥) → outs a pc₁ m ≡ then (outs a pc₁ m) (λ _ pc₂ m₂. takeMark pc pc₂ m₂)
+pub mark-still : (pc : ℕ) (a : Answer) (pc₁ : ℕ) (m : Mem) → (a .number ≡ 0 → ⊥) → outs a pc₁ m ≡ then (outs a pc₁ m) (λ _ pc₂ m₂. takeMark pc pc₂ m₂)
 unfolding outs
-mark-still pc a pc₁ m h = rw (ne-eqb a 0 h)
+mark-still pc a pc₁ m h = rw (ne-eqb (a .number) 0 h)
 
-module _ (pc pc₁ : ℕ) (m : Mem) {z : ℕ} (h : z ≡ 0) where
-  pub mark-full : length (m .journal) ≤ m .used → outs 10 pc₁ m ≡ then (outs z pc₁ m) (λ _ pc₂ m₂. takeMark pc pc₂ m₂)
+module _ (pc pc₁ d : ℕ) (m : Mem) {z : ℕ} (h : z ≡ 0) where
+  pub mark-full : length (m .journal) ≤ m .used → outs (answerFor noRoom) pc₁ m ≡ then (outs (saying z d) pc₁ m) (λ _ pc₂ m₂. takeMark pc pc₂ m₂)
   unfolding outs takeMark
   mark-full l = rw (h, le-ltb (m .used) (length (m .journal)) l)
 
   pub mark-taken : m .used < length (m .journal) → (w : ℕ) → w ≡ markWord pc
-      → outs z pc₁ (beside (set (m .journal) (m .used) w) (m .used + 1) m) ≡ then (outs z pc₁ m) (λ _ pc₂ m₂. takeMark pc pc₂ m₂)
+      → outs (saying z d) pc₁ (beside (set (m .journal) (m .used) w) (m .used + 1) m) ≡ then (outs (saying z d) pc₁ m) (λ _ pc₂ m₂. takeMark pc pc₂ m₂)
   unfolding outs takeMark
   mark-taken l w e = rw (h, lt-ltb (m .used) (length (m .journal)) l, e, add-one (m .used))
 

@@ -9,6 +9,7 @@ use denote.Triple.Both.{Both}
 use Rattle.rules.specs.Machine.{pick, Kind, cpu, vdp, register, upon, size, Mem, mem, beside}
 use Rattle.rules.specs.Rules.{Rule, Deed, Out, got, stopped, then, after, valued, peek, poke}
 use Rattle.rules.specs.Answers as answers
+use Rattle.rules.specs.Answers.{Answer, saying}
 use Rattle.rules.specs.Calls as calls
 use Rattle.machine.specs.declared.state.Now.{Now}
 use Rattle.machine.specs.declared.answers.Why.{Why}
@@ -23,9 +24,9 @@ abbrev pub whyOf : Why → answers.Why
 whyOf Ended = answers.ended
 whyOf NoSuch = answers.noSuch
 whyOf NeedsHost = answers.needsHost
-whyOf OffCpu = answers.offCpu
-whyOf OffVdp = answers.offVdp
-whyOf OffGrom = answers.offGrom
+whyOf (OffCpu a) = answers.offCpu a
+whyOf (OffVdp a) = answers.offVdp a
+whyOf (OffGrom a) = answers.offGrom a
 whyOf OffStack = answers.offStack
 whyOf TooLong = answers.tooLong
 whyOf NoRoom = answers.noRoom
@@ -35,25 +36,28 @@ whyOf OffRegister = answers.offRegister
 
 -- ---- the state, with the memories beside it, as a machine of the rules
 
--- an answer of 0 is a machine that goes on; any other is a refusal by that number
-unfoldable pub outs : ℕ → ℕ → Mem → Out (Unit {0})
-outs a pc m = pick (eqb a 0) (got tt pc m) (stopped a m)
+-- an answer of 0 is a machine that goes on; any other is a refusal by that number, with its address
+unfoldable pub outs : Answer → ℕ → Mem → Out (Unit {0})
+outs a pc m = pick (eqb (a .number) 0) (got tt pc m) (stopped a m)
 
 -- the machine as the code has it: the answer so far, pc and the memories
 pub record Stand : Type 0 where
-  pub answer : ℕ
+  pub answer : Answer
   pub pc : ℕ
   pub mem : Mem
 
-abbrev pub stand : ℕ → ℕ → Mem → Stand
+abbrev pub stand : Answer → ℕ → Mem → Stand
 stand a pc m = record { answer = a; pc = pc; mem = m }
 
 abbrev pub outOf : Stand → Out (Unit {0})
 outOf s = outs (s .answer) (s .pc) (s .mem)
 
+abbrev pub answerOf : Now → Answer
+answerOf n = saying (n .answer) (n .address)
+
 -- the state beside image, pad, VDP RAM, registers and journal
 abbrev pub standing : List ℕ → List ℕ → List ℕ → List ℕ → List ℕ → Now → Stand
-standing i p v g j n = stand (n .answer) (n .pc) (mem i p v g j (n .used))
+standing i p v g j n = stand (answerOf n) (n .pc) (mem i p v g j (n .used))
 
 -- from s the rule goes to t, and gives a
 pub record Goes {A : Type 0} (s : Stand) (r : Rule A) (a : A) (t : Stand) : Type 0 where
@@ -66,18 +70,18 @@ pub record Owes {A : Type 0} (s : Stand) (r : Rule A) (t : Stand) (q : Rule A) :
 -- ---- the states that the code makes
 
 abbrev pub began : ℕ → ℕ → Now
-began pc u = record { pc = pc; used = u; answer = 0; byte = 0; word = 0 }
+began pc u = record { pc = pc; used = u; answer = 0; address = 0; byte = 0; word = 0 }
 
-abbrev pub refusedBy : ℕ → Now → Now
-refusedBy a n = record { pc = n .pc; used = n .used; answer = a; byte = 0; word = 0 }
+abbrev pub refusedBy : Answer → Now → Now
+refusedBy a n = record { pc = n .pc; used = n .used; answer = a .number; address = a .address; byte = 0; word = 0 }
 
 -- a byte read, and where pc is then
 abbrev pub readBy : ℕ → ℕ → Now → Now
-readBy pc b n = record { pc = pc; used = n .used; answer = n .answer; byte = b; word = 0 }
+readBy pc b n = record { pc = pc; used = n .used; answer = n .answer; address = n .address; byte = b; word = 0 }
 
 -- one journal word more is used
 abbrev pub laidBy : Now → Now
-laidBy n = record { pc = n .pc; used = n .used + 1; answer = n .answer; byte = 0; word = 0 }
+laidBy n = record { pc = n .pc; used = n .used + 1; answer = n .answer; address = n .address; byte = 0; word = 0 }
 
 -- ---- what a contract says
 
@@ -170,10 +174,10 @@ memAfter q w u =
     mem (after′ (q .image) (w .image)) (after′ (q .pad) (w .pad)) (after′ (q .vram) (w .vram)) (after′ (q .regs) (w .regs)) (after′ (q .journal) (w .journal)) u
 
 abbrev pub start : (q : Parts) → Rest q → Now → Stand
-start q w m = stand (m .answer) (m .pc) (memBefore q w (m .used))
+start q w m = stand (answerOf m) (m .pc) (memBefore q w (m .used))
 
 abbrev pub end : (q : Parts) → Rest q → Now → Stand
-end q w n = stand (n .answer) (n .pc) (memAfter q w (n .used))
+end q w n = stand (answerOf n) (n .pc) (memAfter q w (n .used))
 
 -- m goes in, n comes out, and a value: whatever the rest of the machine is, the rule goes from what was lent to what is left, and gives the value
 abbrev pub Gives : {A : Type 0} → A → Rule A → (Parts → Parts) → Now → Now → Type 0
@@ -222,14 +226,14 @@ with k c j u m = mem (m .image) (upon k c (m .pad) (m .pad)) (upon k (m .vram) c
 -- a byte is loaded from one of its cells: in any machine that has these
 abbrev pub Loads : Memory → ℕ → Lent → Now → Now → Type 0
 Loads k a s m n =
-    (x : Mem) → Goes (stand (m .answer) (m .pc) (with (kindOf k) (now (s .entry)) (x .journal) (m .used) x)) (peek (kindOf k) a) (n .byte)
-    (stand (n .answer) (n .pc) (with (kindOf k) (now (s .entry)) (x .journal) (n .used) x))
+    (x : Mem) → Goes (stand (answerOf m) (m .pc) (with (kindOf k) (now (s .entry)) (x .journal) (m .used) x)) (peek (kindOf k) a) (n .byte)
+    (stand (answerOf n) (n .pc) (with (kindOf k) (now (s .entry)) (x .journal) (n .used) x))
 
 -- a byte is stored into one
 abbrev pub Stores : Memory → ℕ → ℕ → Lent → Lent → Now → Now → Type 0
 Stores k a b s j m n =
-    (x : Mem) → Goes (stand (m .answer) (m .pc) (with (kindOf k) (now (s .entry)) (now (j .entry)) (m .used) x)) (poke (kindOf k) a b) tt
-    (stand (n .answer) (n .pc) (with (kindOf k) (now (s .exit)) (now (j .exit)) (n .used) x))
+    (x : Mem) → Goes (stand (answerOf m) (m .pc) (with (kindOf k) (now (s .entry)) (now (j .entry)) (m .used) x)) (poke (kindOf k) a b) tt
+    (stand (answerOf n) (n .pc) (with (kindOf k) (now (s .exit)) (now (j .exit)) (n .used) x))
 
 -- a byte is put into a cell, if there is one
 abbrev pub Puts : ℕ → ℕ → Lent → Type 0

@@ -14,7 +14,7 @@ pub fn next_byte(image: &[u8], m: Now) -> Now
         return m;
     }
     if image.len() <= at {
-        return state::refused(m, Why::OffGrom);
+        return state::refused(m, Why::OffGrom(pc));
     }
     state::read(m, number::addresses::onward(pc), image[at])
 }
@@ -27,7 +27,7 @@ pub fn grom_byte(image: &[u8], m: Now, a: u16) -> Now
         return m;
     }
     if image.len() <= at {
-        return state::refused(m, Why::OffGrom);
+        return state::refused(m, Why::OffGrom(a));
     }
     state::read(m, m.pc, image[at])
 }

@@ -6,6 +6,7 @@ use crate::state::Now;
 ghost use mathlib.Core.Path.{_≡_};
 ghost use Rattle.rules.specs.Machine;
 ghost use Rattle.rules.specs.Answers;
+ghost use Rattle.rules.specs.Answers.{answerFor};
 ghost use Rattle.rules.specs.Journal.{kindNumber};
 ghost use Rattle.machine.specs.Meaning.{whyOf, kindOf, IsOf, Loads, Stores};
 
@@ -27,12 +28,13 @@ fn reach(k: Memory) -> usize
 }
 
 // The refusal of an address that names none.
-fn outside(k: Memory) -> Why
-    ensures { λ r. ⌜ whyOf r ≡ Answers.outside (kindOf k) ⌝ }
+fn outside(k: Memory, at: usize) -> Why
+    ensures { λ r. ⌜ answerFor (whyOf r) ≡ answerFor (Answers.outside (kindOf k) at) ⌝ }
 {
+    let a = (at % 65536) as u16;
     match k {
-        Memory::Cpu => Why::OffCpu,
-        Memory::Vdp => Why::OffVdp,
+        Memory::Cpu => Why::OffCpu(a),
+        Memory::Vdp => Why::OffVdp(a),
         Memory::Register => Why::OffRegister,
     }
 }
@@ -56,7 +58,7 @@ pub fn load(memory: &[u8], m: Now, k: Memory, at: usize) -> Now
         return m;
     }
     if reach(k) <= at {
-        return state::refused(m, outside(k));
+        return state::refused(m, outside(k, at));
     }
     state::read(m, m.pc, memory[at])
 }
@@ -68,7 +70,7 @@ pub fn store(memory: &mut [u8], journal: &mut [u32], m: Now, k: Memory, at: usiz
 {
     let used = m.used;
     let limit = reach(k);
-    let why = outside(k);
+    let why = outside(k, at);
     if m.answer != 0 {
         return m;
     }

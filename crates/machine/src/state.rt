@@ -3,16 +3,17 @@ use crate::answers;
 use crate::answers::Why;
 ghost use mathlib.Core.Path.{_≡_};
 ghost use Prim.Native.Nat.{_+_, _<_, _^_};
-ghost use Rattle.rules.specs.Answers.{number};
+ghost use Rattle.rules.specs.Answers.{answerFor};
 ghost use Rattle.rules.specs.Rules;
 ghost use Rattle.rules.specs.Rules.{give, goto};
 ghost use Rattle.machine.specs.Meaning.{Does, Gives, Nothing, whyOf, began, refusedBy, readBy, laidBy};
 
-// The used words, pc, the word or the byte that was read last, and the answer so far: the widest first, so that it takes 16 bytes.
+// The used words, pc, the word or the byte that was read last, and the answer so far with its address: the widest first, so that it takes 16 bytes.
 pub struct Now {
     pub used: usize,
     pub pc: u16,
     pub word: u16,
+    pub address: u16,
     pub byte: u8,
     pub answer: u8,
 }
@@ -25,18 +26,20 @@ pub fn begin(pc: u16, used: usize) -> Now
         pc,
         used,
         answer: 0,
+        address: 0,
         byte: 0,
         word: 0,
     }
 }
 
 pub fn refused(m: Now, why: Why) -> Now
-    ensures { λ r. ⌜ r ≡ refusedBy (number (whyOf why)) m ⌝ }
+    ensures { λ r. ⌜ r ≡ refusedBy (answerFor (whyOf why)) m ⌝ }
 {
     Now {
         pc: m.pc,
         used: m.used,
         answer: answers::number(why),
+        address: answers::address(why),
         byte: 0,
         word: 0,
     }
@@ -50,6 +53,7 @@ pub fn read(m: Now, pc: u16, b: u8) -> Now
         pc,
         used: m.used,
         answer: m.answer,
+        address: m.address,
         byte: b,
         word: 0,
     }
@@ -65,6 +69,7 @@ pub fn laid(m: Now) -> Now
         pc: m.pc,
         used: next,
         answer: m.answer,
+        address: m.address,
         byte: 0,
         word: 0,
     }
@@ -84,6 +89,7 @@ pub fn give_word(m: Now, w: u16) -> Now
         pc: m.pc,
         used: m.used,
         answer: m.answer,
+        address: m.address,
         byte: 0,
         word: w,
     }

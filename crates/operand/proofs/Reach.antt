@@ -8,9 +8,9 @@ use native.Mathlib.Omega.{arith}
 use lib.Dec.{eqb}
 use borrow.Author.Tests.{leb-true}
 use Rattle.rules.specs.Machine.{Mem}
-use Rattle.rules.specs.Answers.{Why, number, outside}
+use Rattle.rules.specs.Answers.{Why, Answer, answerFor, outside}
 use Rattle.rules.specs.Rules.{Rule}
-use Rattle.rules.specs.Operands.{Cell, inReach, reached}
+use Rattle.rules.specs.Operands.{Cell, inReach, firstOut, reached}
 use Rattle.rules.proofs.Undo.{reach-small}
 use Rattle.machine.specs.declared.state.Now.{Now}
 use Rattle.machine.specs.Meaning.{Stand, stand, standing, Goes}
@@ -24,12 +24,13 @@ use Rattle.operand.specs.Meaning.{cellOf, placeOf, nowOf}
 pub near : (n : ℕ) (c : Cell) → inReach n c ≡ true → c .at + n ≤ 16384
 near n c h = le-trans (leb-true _ _ h) (reach-small (c .kind))
 
-module _ (n : ℕ) (c : Cell) {a pc : ℕ} {m : Mem} where
-  pub reached-at : a ≡ 0 → inReach n c ≡ true → Goes (stand a pc m) (reached n c) c (stand a pc m)
+module _ (n : ℕ) (c : Cell) {a : Answer} {pc : ℕ} {m : Mem} where
+  pub reached-at : a .number ≡ 0 → inReach n c ≡ true → Goes (stand a pc m) (reached n c) c (stand a pc m)
   unfolding reached
   reached-at z h = seq (need-holds _ h) (gives refl)
 
-  pub reached-out : {why : Why} {v : Cell} → a ≡ 0 → inReach n c ≡ false → why ≡ outside (c .kind) → Goes (stand a pc m) (reached n c) v (stand (number why) pc m)
+  pub reached-out : {why : Why} {v : Cell} → a .number ≡ 0 → inReach n c ≡ false → why ≡ outside (c .kind) (firstOut c)
+      → Goes (stand a pc m) (reached n c) v (stand (answerFor why) pc m)
   unfolding reached
   reached-out z h e = refuses _ z e h
 

@@ -4,8 +4,10 @@ use machine::cells;
 use machine::state::Now;
 ghost use mathlib.Core.Path.{_≡_};
 ghost use Prim.Native.Nat.{_+_, _≤_, _<_};
+ghost use lib.Dec.{ltb};
+ghost use Rattle.rules.specs.Machine.{pick};
 ghost use Rattle.rules.specs.Answers;
-ghost use Rattle.rules.specs.Operands.{inReach, past, isBuffer};
+ghost use Rattle.rules.specs.Operands.{inReach, firstOut, past, isBuffer};
 ghost use Rattle.machine.specs.Meaning.{whyOf};
 ghost use Rattle.operand.specs.Meaning.{cellOf, placeOf, nowOf};
 
@@ -62,13 +64,23 @@ pub fn in_reach(n: usize, place: Place) -> bool
     }
 }
 
+// From an offset on, the first out of reach.
+fn first_out(a: u16, reach: u16) -> u16
+    ensures { λ r. ⌜ r ≡ pick (ltb a reach) reach a ⌝ }
+{
+    if a < reach {
+        return reach;
+    }
+    a
+}
+
 // The refusal of a place out of range.
 pub fn outside(place: Place) -> Why
-    ensures { λ r. ⌜ whyOf r ≡ Answers.outside (cellOf place .kind) ⌝ }
+    ensures { λ r. ⌜ whyOf r ≡ Answers.outside (cellOf place .kind) (firstOut (cellOf place)) ⌝ }
 {
     match place {
-        Place::Cpu(_) => Why::OffCpu,
-        Place::Vdp(_) => Why::OffVdp,
+        Place::Cpu(a) => Why::OffCpu(first_out(a, cells::PAD_REACH as u16)),
+        Place::Vdp(a) => Why::OffVdp(first_out(a, cells::VDP_REACH as u16)),
     }
 }
 

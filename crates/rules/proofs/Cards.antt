@@ -3,7 +3,7 @@ use mathlib.Core.Path.{_≡_, refl}
 use mathlib.Core.Bool.{true}
 use Prim.Native.Nat.{ℕ}
 use Rattle.rules.specs.Arithmetic.{parity}
-use Rattle.rules.specs.Cards.{cards, facts, bufferFacts, everyPasses}
+use Rattle.rules.specs.Cards.{cards, facts, bufferFacts, addressFacts, everyPasses}
 use Rattle.rules.proofs.Compute.{everyRule}
 
 pub cards-pass : everyPasses cards ≡ true
@@ -22,3 +22,7 @@ always-set r = refl
 pub buffer-holds : everyPasses bufferFacts ≡ true
 unfolding everyRule
 buffer-holds = refl
+
+pub addresses-hold : everyPasses addressFacts ≡ true
+unfolding everyRule
+addresses-hold = refl

@@ -8,7 +8,7 @@ use native.Mathlib.Omega.{arith}
 use lib.Dec.{ltb}
 use lib.ListN.{length, getD, set, take}
 use Rattle.rules.specs.Machine.{pick, Kind, reach, Mem, State, state, cells, put, beside, onward}
-use Rattle.rules.specs.Answers.{number, noRoom, offGrom, outside}
+use Rattle.rules.specs.Answers.{answerFor, noRoom, offGrom, outside}
 use Rattle.rules.specs.Journal.{markWord, lay, Store, storeOf, wordOf, make, Note, note, restore, zeroTop, undoTop, undo, blank, blanked}
 use Rattle.rules.specs.Rules.{Act, next, grom, ask, jump, load, store, Out, got, stopped, room, perform}
 use Rattle.rules.specs.Calls.{takeMark, attempt}
@@ -108,35 +108,35 @@ as-cleared (stopped n m) = off refl
 
 is-cleared : {A : Type 0} {o p : Out A} → Cleared o p → p ≡ cleared o
 is-cleared (on {a} h) = ap (λ (x : State). got a (x .pc) (x .mem)) h
-is-cleared (off {n} h) = ap (stopped n) h
+is-cleared (off {a} h) = ap (stopped a) h
 
 cleared-pick : {A : Type 0} (c : Bool) (x y : Out A) → cleared (pick c x y) ≡ pick c (cleared x) (cleared y)
 cleared-pick true x y = refl
 cleared-pick false x y = refl
 
 clear-store : (k : Kind) (a b pc : ℕ) (m : Mem)
-    → cleared {A = ℕ} (pick (room m) (got 0 pc (make (storeOf k a b m) m)) (stopped (number noRoom) m))
-    ≡ pick (room (clear m)) (got 0 pc (make (storeOf k a b m) (clear m))) (stopped (number noRoom) (clear m))
+    → cleared {A = ℕ} (pick (room m) (got 0 pc (make (storeOf k a b m) m)) (stopped (answerFor noRoom) m))
+    ≡ pick (room (clear m)) (got 0 pc (make (storeOf k a b m) (clear m))) (stopped (answerFor noRoom) (clear m))
 clear-store k a b pc m =
     let s : Store = storeOf k a b m in
-    cleared-pick (room m) (got 0 pc (make s m)) (stopped (number noRoom) m)
+    cleared-pick (room m) (got 0 pc (make s m)) (stopped (answerFor noRoom) m)
     ∙ rw (length-keep (m .used) (m .journal), clear-lay (wordOf s) (put k a b m))
 
 perform-clear : (q : Act) (pc : ℕ) (m : Mem) → cleared (perform q pc m) ≡ perform q pc (clear m)
 unfolding perform
-perform-clear next pc m = cleared-pick (ltb pc (length (m .image))) (got (getD (m .image) pc 0) (onward pc) m) (stopped (number offGrom) m)
-perform-clear (grom a) pc m = cleared-pick (ltb a (length (m .image))) (got (getD (m .image) a 0) pc m) (stopped (number offGrom) m)
+perform-clear next pc m = cleared-pick (ltb pc (length (m .image))) (got (getD (m .image) pc 0) (onward pc) m) (stopped (answerFor (offGrom pc)) m)
+perform-clear (grom a) pc m = cleared-pick (ltb a (length (m .image))) (got (getD (m .image) a 0) pc m) (stopped (answerFor (offGrom a)) m)
 perform-clear ask pc m = refl
 perform-clear (jump a) pc m = refl
-perform-clear (load k a) pc m = cleared-pick (ltb a (reach k)) (got (getD (cells k m) a 0) pc m) (stopped (number (outside k)) m)
+perform-clear (load k a) pc m = cleared-pick (ltb a (reach k)) (got (getD (cells k m) a 0) pc m) (stopped (answerFor (outside k a)) m)
 perform-clear (store k a b) pc m =
-    cleared-pick (ltb a (reach k)) (pick (room m) (got 0 pc (make (storeOf k a (b % 256) m) m)) (stopped (number noRoom) m)) (stopped (number (outside k)) m)
-    ∙ ap (λ (o : Out ℕ). pick (ltb a (reach k)) o (stopped (number (outside k)) (clear m))) (clear-store k a (b % 256) pc m)
+    cleared-pick (ltb a (reach k)) (pick (room m) (got 0 pc (make (storeOf k a (b % 256) m) m)) (stopped (answerFor noRoom) m)) (stopped (answerFor (outside k a)) m)
+    ∙ ap (λ (o : Out ℕ). pick (ltb a (reach k)) o (stopped (answerFor (outside k a)) (clear m))) (clear-store k a (b % 256) pc m)
 
 takeMark-clear : (pc pc₁ : ℕ) (m : Mem) → cleared (takeMark pc pc₁ m) ≡ takeMark pc pc₁ (clear m)
 unfolding takeMark
 takeMark-clear pc pc₁ m =
-    cleared-pick (room m) (got tt pc₁ (lay (markWord pc) m)) (stopped (number noRoom) m)
+    cleared-pick (room m) (got tt pc₁ (lay (markWord pc) m)) (stopped (answerFor noRoom) m)
     ∙ rw (clear-lay (markWord pc) m, length-keep (m .used) (m .journal))
 
 keeps-clear : Keeps (λ s t. t ≡ clearS s) (λ n m m₁. m₁ ≡ clear m)

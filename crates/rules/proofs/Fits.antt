@@ -7,7 +7,7 @@ use lib.Dec.{eqb}
 use lib.ListN.{length, length-set}
 use borrow.Author.Tests.{le-leb, leb-true}
 use Rattle.rules.specs.Machine.{pick, _also_, cpu, vdp, register, size, Mem, State}
-use Rattle.rules.specs.Answers.{number, wrongLength}
+use Rattle.rules.specs.Answers.{answerFor, wrongLength}
 use Rattle.rules.specs.Journal.{markWord, lay, Store}
 use Rattle.rules.specs.Calls.{partsFit, memFits, fits, Reply, refused, fitStep, step, stepStores, fitBack, stepBack}
 use Rattle.rules.specs.Demands.{Good, Accepted}
@@ -64,16 +64,16 @@ module _ (s : State) where
   unfolding step
   step-fit h = rw h
 
-  pub step-unfit : fits (s .mem) ≡ false → step s ≡ refused (number wrongLength) s
+  pub step-unfit : fits (s .mem) ≡ false → step s ≡ refused (answerFor wrongLength) s
   unfolding step
   step-unfit h = rw h
 
   -- what is known of every step, by what is known of one whose parts fit and of one whose parts don't
-  pub step-cases : (P : Reply → Type 0) → (fits (s .mem) ≡ true → P (fitStep s)) → (fits (s .mem) ≡ false → P (refused (number wrongLength) s)) → P (step s)
+  pub step-cases : (P : Reply → Type 0) → (fits (s .mem) ≡ true → P (fitStep s)) → (fits (s .mem) ≡ false → P (refused (answerFor wrongLength) s)) → P (step s)
   unfolding step
   step-cases P f g = go (fits (s .mem)) refl
     where
-      go : (c : Bool) → fits (s .mem) ≡ c → P (pick c (fitStep s) (refused (number wrongLength) s))
+      go : (c : Bool) → fits (s .mem) ≡ c → P (pick c (fitStep s) (refused (answerFor wrongLength) s))
       go true e = f e
       go false e = g e
 
@@ -96,9 +96,9 @@ clearR-pick false r q = refl
 pub call-clear : (s : State) → clearR (step s) ≡ step (clearS s)
 unfolding step
 call-clear s =
-    clearR-pick (fits (s .mem)) (fitStep s) (refused (number wrongLength) s) ∙ rw (step-clear s, length-keep (s .mem .used) (s .mem .journal))
+    clearR-pick (fits (s .mem)) (fitStep s) (refused (answerFor wrongLength) s) ∙ rw (step-clear s, length-keep (s .mem .used) (s .mem .journal))
 
 pub call-back-clear : (s : State) → clearR (stepBack s) ≡ stepBack (clearS s)
 unfolding stepBack
 call-back-clear s =
-    clearR-pick (memFits (s .mem)) (fitBack s) (refused (number wrongLength) s) ∙ rw (back-clear s, length-keep (s .mem .used) (s .mem .journal))
+    clearR-pick (memFits (s .mem)) (fitBack s) (refused (answerFor wrongLength) s) ∙ rw (back-clear s, length-keep (s .mem .used) (s .mem .journal))

@@ -8,7 +8,7 @@ use native.Mathlib.Omega.{arith}
 use lib.ListN.{length, take}
 use lib.Seq.{take-suc-set, append-snoc}
 use Rattle.rules.specs.Machine.{Mem, State, state, cells}
-use Rattle.rules.specs.Answers.{number, wrongLength, noRecord}
+use Rattle.rules.specs.Answers.{Answer, answerFor, wrongLength, noRecord}
 use Rattle.rules.specs.Journal.{markWord, Store, wordOf, blanked}
 use Rattle.rules.specs.Calls.{memFits, Reply, done, refused, left, step, stepStores, scan, fitBack, stepBack}
 use Rattle.rules.specs.Demands.{Good, Accepted, Refused, Op, forth, aback, reply, play, tally, kept, forward, AllAccepted, records, total, Demand3}
@@ -35,16 +35,16 @@ back-undoes s g a =
 
 -- with no word used there is no record
 pub record Nothing (s : State) : Type 0 where
-  pub number : ℕ
-  pub is : stepBack s ≡ refused number s
+  pub says : Answer
+  pub is : stepBack s ≡ refused says s
 
 pub back-nothing : (s : State) → s .mem .used ≡ 0 → Nothing s
 unfolding stepBack fitBack scan
 back-nothing s z = go (memFits (s .mem)) refl
   where
     go : (c : Bool) → memFits (s .mem) ≡ c → Nothing s
-    go true e = record { number = number noRecord; is = rw (e, z) }
-    go false e = record { number = number wrongLength; is = rw e }
+    go true e = record { says = answerFor noRecord; is = rw (e, z) }
+    go false e = record { says = answerFor wrongLength; is = rw e }
 
 -- ---- states that agree but for the journal above the used words
 

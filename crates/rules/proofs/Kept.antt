@@ -4,7 +4,7 @@ use mathlib.Core.Path.{_≡_, refl, ap, subst}
 use mathlib.Core.Bool.{Bool, true, false}
 use Prim.Native.Nat.{ℕ}
 use Rattle.rules.specs.Machine.{pick, Mem, State, state}
-use Rattle.rules.specs.Answers.{Why, number}
+use Rattle.rules.specs.Answers.{Why, Answer, answerFor}
 use Rattle.rules.specs.Rules.{Act, next, Rule, give, refuse, act, Out, got, stopped, then, perform, exec, after}
 use Rattle.rules.specs.Opcodes.{Class, stops, does, classOf}
 use Rattle.rules.specs.Tasks.{ruleOf}
@@ -12,17 +12,17 @@ use Rattle.rules.specs.Calls.{takeMark, begin, attempt}
 
 -- ---- of two machines
 
--- both went on with one value, and Q is so of where they are; or both were refused by one number, and F is so of it and the memories
-pub data Both (Q : State → State → Type 0) (F : ℕ → Mem → Mem → Type 0) {A : Type 0} : Out A → Out A → Type 0 where
+-- both went on with one value, and Q is so of where they are; or both were refused with one answer, and F is so of it and the memories
+pub data Both (Q : State → State → Type 0) (F : Answer → Mem → Mem → Type 0) {A : Type 0} : Out A → Out A → Type 0 where
   on : {a : A} {pc pc₁ : ℕ} {m m₁ : Mem} → Q (state pc m) (state pc₁ m₁) → Both Q F (got a pc m) (got a pc₁ m₁)
-  off : {n : ℕ} {m m₁ : Mem} → F n m m₁ → Both Q F (stopped n m) (stopped n m₁)
+  off : {a : Answer} {m m₁ : Mem} → F a m m₁ → Both Q F (stopped a m) (stopped a m₁)
 
-pub record Keeps (Q : State → State → Type 0) (F : ℕ → Mem → Mem → Type 0) : Type 0 where
+pub record Keeps (Q : State → State → Type 0) (F : Answer → Mem → Mem → Type 0) : Type 0 where
   pub acts : (q : Act) (s t : State) → Q s t → Both Q F (perform q (s .pc) (s .mem)) (perform q (t .pc) (t .mem))
   pub marks : (pc : ℕ) (s t : State) → Q s t → Both Q F (takeMark pc (s .pc) (s .mem)) (takeMark pc (t .pc) (t .mem))
-  pub refuses : (why : Why) (s t : State) → Q s t → F (number why) (s .mem) (t .mem)
+  pub refuses : (why : Why) (s t : State) → Q s t → F (answerFor why) (s .mem) (t .mem)
 
-module _ {Q : State → State → Type 0} {F : ℕ → Mem → Mem → Type 0} where
+module _ {Q : State → State → Type 0} {F : Answer → Mem → Mem → Type 0} where
   then-keeps : {A B : Type 0} {o p : Out A} (f g : A → ℕ → Mem → Out B) → Both Q F o p
       → ((a : A) (s t : State) → Q s t → Both Q F (f a (s .pc) (s .mem)) (g a (t .pc) (t .mem))) → Both Q F (then o f) (then p g)
   then-keeps f g (on {a} {pc} {pc₁} {m} {m₁} h) k = k a (state pc m) (state pc₁ m₁) h
@@ -48,26 +48,26 @@ module _ {Q : State → State → Type 0} {F : ℕ → Mem → Mem → Type 0} w
 
 -- ---- of one machine
 
--- it went on, and P is so of where it is; or it was refused by a number of which F is so
-abbrev pub Held : (State → Type 0) → (ℕ → Type 0) → {A : Type 0} → Out A → Type 0
+-- it went on, and P is so of where it is; or it was refused with an answer of which F is so
+abbrev pub Held : (State → Type 0) → (Answer → Type 0) → {A : Type 0} → Out A → Type 0
 Held P F (got a pc m) = P (state pc m)
-Held P F (stopped n m) = F n
+Held P F (stopped a m) = F a
 
-pub by-test : (P : State → Type 0) (F : ℕ → Type 0) {A : Type 0} (c : Bool) (x y : Out A) → Held P F x → Held P F y → Held P F (pick c x y)
+pub by-test : (P : State → Type 0) (F : Answer → Type 0) {A : Type 0} (c : Bool) (x y : Out A) → Held P F x → Held P F y → Held P F (pick c x y)
 by-test P F true x y h k = h
 by-test P F false x y h k = k
 
-pub record Holds (P : State → Type 0) (F : ℕ → Type 0) : Type 0 where
+pub record Holds (P : State → Type 0) (F : Answer → Type 0) : Type 0 where
   pub acts : (q : Act) (s : State) → P s → Held P F (perform q (s .pc) (s .mem))
   pub marks : (pc : ℕ) (s : State) → P s → Held P F (takeMark pc (s .pc) (s .mem))
-  pub refuses : (why : Why) → F (number why)
+  pub refuses : (why : Why) → F (answerFor why)
 
-module _ {P : State → Type 0} {F : ℕ → Type 0} (holds : Holds P F) where
+module _ {P : State → Type 0} {F : Answer → Type 0} (holds : Holds P F) where
   abbrev Itself : State → State → Type 0
   Itself s t = (s ≡ t) × P s
 
-  abbrev Same : ℕ → Mem → Mem → Type 0
-  Same n m m₁ = (m ≡ m₁) × F n
+  abbrev Same : Answer → Mem → Mem → Type 0
+  Same a m m₁ = (m ≡ m₁) × F a
 
   beside-itself : {A : Type 0} (o : Out A) → Held P F o → Both Itself Same o o
   beside-itself (got a pc m) h = on (refl, h)

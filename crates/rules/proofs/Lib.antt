@@ -12,6 +12,7 @@ pub mod Opcodes
 pub mod Named
 pub mod Replies
 pub mod Struck
+pub mod Addresses
 pub mod Wrong
 pub mod Compute
 pub mod Cards

@@ -1,5 +1,5 @@
 -- Every refusal is one that the table of answers has, so that an answer of 0 is a call that was done: by induction on the rule, since a rule refuses only by a name.
-use mathlib.Core.Path.{_≡_, refl, subst}
+use mathlib.Core.Path.{_≡_, refl, ap, subst}
 use mathlib.Core.Bool.{Bool, true, false}
 use mathlib.Core.Logic.{_⊎_, inl, inr}
 use Prim.Native.Nat.{ℕ}
@@ -7,7 +7,7 @@ use native.Mathlib.Omega.{arith}
 use lib.Dec.{ltb}
 use lib.ListN.{length}
 use Rattle.rules.specs.Machine.{pick, reach, State}
-use Rattle.rules.specs.Answers.{Why, number, offGrom, noRoom, wrongLength, noRecord, outside}
+use Rattle.rules.specs.Answers.{Why, Answer, well, answerFor, offGrom, noRoom, wrongLength, noRecord, outside}
 use Rattle.rules.specs.Rules.{Act, next, grom, ask, jump, load, store, Rule, Out, got, stopped, room, perform, exec}
 use Rattle.rules.specs.Calls.{memFits, fits, Reply, done, refused, answer, takeMark, attempt, settle, fitStep, step, Report, report, steps, run}
 use Rattle.rules.specs.Calls.{Find, found, lost, scan, backTo, fitBack, stepBack}
@@ -22,18 +22,18 @@ use Rattle.rules.proofs.Run.{steps-end}
 abbrev pub Any : State → Type 0
 Any s = Unit {0}
 
-pub by-name : (why : Why) → Listed (number why)
+pub by-name : (why : Why) → Listed (answerFor why)
 by-name why = record { why = why; is = refl }
 
 named-act : (q : Act) (s : State) → Any s → Held Any Listed (perform q (s .pc) (s .mem))
 unfolding perform
-named-act next s h = by-test Any Listed (ltb (s .pc) (length (s .mem .image))) _ _ tt (by-name offGrom)
-named-act (grom a) s h = by-test Any Listed (ltb a (length (s .mem .image))) _ _ tt (by-name offGrom)
+named-act next s h = by-test Any Listed (ltb (s .pc) (length (s .mem .image))) _ _ tt (by-name (offGrom (s .pc)))
+named-act (grom a) s h = by-test Any Listed (ltb a (length (s .mem .image))) _ _ tt (by-name (offGrom a))
 named-act ask s h = tt
 named-act (jump a) s h = tt
-named-act (load k a) s h = by-test Any Listed (ltb a (reach k)) _ _ tt (by-name (outside k))
+named-act (load k a) s h = by-test Any Listed (ltb a (reach k)) _ _ tt (by-name (outside k a))
 named-act (store k a b) s h =
-    by-test Any Listed (ltb a (reach k)) _ _ (by-test Any Listed (room (s .mem)) _ _ tt (by-name noRoom)) (by-name (outside k))
+    by-test Any Listed (ltb a (reach k)) _ _ (by-test Any Listed (room (s .mem)) _ _ tt (by-name noRoom)) (by-name (outside k a))
 
 named-mark : (pc : ℕ) (s : State) → Any s → Held Any Listed (takeMark pc (s .pc) (s .mem))
 unfolding takeMark
@@ -67,18 +67,18 @@ pub named-back : (s : State) → NamedReply (stepBack s)
 unfolding stepBack fitBack
 named-back s = go (memFits (s .mem))
   where
-    go : (c : Bool) → NamedReply (pick c (fitBack s) (refused (number wrongLength) s))
+    go : (c : Bool) → NamedReply (pick c (fitBack s) (refused (answerFor wrongLength) s))
     go true = named-find (scan (s .mem .used) (s .mem .journal)) s
     go false = by-name wrongLength
 
 -- an answer of 0 is a call that was done
-pub told : (r : Reply) → NamedReply r → answer r ≡ 0 → Accepted r
+pub told : (r : Reply) → NamedReply r → answer r .number ≡ 0 → Accepted r
 told (done s) h e = tt
-told (refused n s) h e = absurd (omega (arith, never-done (h .why), h .is))
+told (refused a s) h e = absurd (omega (arith, never-done (h .why), ap (λ (x : Answer). x .number) (h .is)))
 
--- a run answers 0, or with one of them
-abbrev pub Answered : ℕ → Type 0
-Answered a = (a ≡ 0) ⊎ Listed a
+-- a run answers 0, with no address, or with one of them
+abbrev pub Answered : Answer → Type 0
+Answered a = (a ≡ well) ⊎ Listed a
 
 module _ (n : ℕ) (s : State) where
   named-end : (r : Report) → Ends n s r → Answered (r .answer)
@@ -89,6 +89,6 @@ module _ (n : ℕ) (s : State) where
   unfolding run
   named-run = go (fits (s .mem))
     where
-      go : (c : Bool) → Answered (pick c (steps n s) (report (number wrongLength) 0 0 s) .answer)
+      go : (c : Bool) → Answered (pick c (steps n s) (report (answerFor wrongLength) 0 0 s) .answer)
       go true = named-end (steps n s) (steps-end n s)
       go false = inr (by-name wrongLength)

@@ -86,9 +86,9 @@ unfolding among numbers from
 in-table ended = refl
 in-table noSuch = refl
 in-table needsHost = refl
-in-table offCpu = refl
-in-table offVdp = refl
-in-table offGrom = refl
+in-table (offCpu a) = refl
+in-table (offVdp a) = refl
+in-table (offGrom a) = refl
 in-table offStack = refl
 in-table tooLong = refl
 in-table noRoom = refl

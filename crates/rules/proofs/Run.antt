@@ -6,7 +6,7 @@ use native.Mathlib.Nat.{zero-lt-suc}
 use native.Mathlib.Omega.{arith}
 use lib.ListN.{length}
 use Rattle.rules.specs.Machine.{State}
-use Rattle.rules.specs.Answers.{number, wrongLength}
+use Rattle.rules.specs.Answers.{answerFor, wrongLength}
 use Rattle.rules.specs.Calls.{fits, Reply, done, refused, left, step, stepStores, Report, report, onto, steps, run}
 use Rattle.rules.specs.Demands.{Good, Accepted, AllAccepted, forward, total, Ends, full, cut}
 use Rattle.rules.proofs.Stores.{used-after}
@@ -50,7 +50,7 @@ pub run-ends : (n : ℕ) (s : State) → fits (s .mem) ≡ true → Ends n s (ru
 unfolding run
 run-ends n s h = rw h (steps-end n s)
 
-pub run-unfit : (n : ℕ) (s : State) → fits (s .mem) ≡ false → run n s ≡ report (number wrongLength) 0 0 s
+pub run-unfit : (n : ℕ) (s : State) → fits (s .mem) ≡ false → run n s ≡ report (answerFor wrongLength) 0 0 s
 unfolding run
 run-unfit n s h = rw h
 

@@ -10,7 +10,7 @@ use lib.ListN.{length, getD, set}
 use lib.Seq.{getD-set-same, getD-set-other}
 use borrow.Author.Tests.{ltb-true, lt-ltb}
 use Rattle.rules.specs.Machine.{pick, Kind, reach, Mem, State, state, onward}
-use Rattle.rules.specs.Answers.{number, noRoom, offGrom}
+use Rattle.rules.specs.Answers.{Answer, answerFor, noRoom, offGrom}
 use Rattle.rules.specs.Journal.{markWord, lay, Store, wordOf, Note, stood, mark, note, undoTop, undo, blanked}
 use Rattle.rules.specs.Rules.{Act, next, grom, ask, jump, load, store, Deed, Out, got, stopped, then, room, perform, after, stores, storesThen}
 use Rattle.rules.specs.Opcodes.{Class, stops, does, classOf}
@@ -27,8 +27,8 @@ use Rattle.rules.proofs.Clear.{keep, clear, clearS, cleared, getD-keep,
 abbrev In16 : State → Type 0
 In16 s = s .pc < 65536
 
-abbrev Any : ℕ → Type 0
-Any n = Unit {0}
+abbrev Any : Answer → Type 0
+Any a = Unit {0}
 
 in16-act : (q : Act) (s : State) → In16 s → Held In16 Any (perform q (s .pc) (s .mem))
 unfolding perform
@@ -49,13 +49,13 @@ in16 = record { acts = in16-act; marks = in16-mark; refuses = λ why. tt }
 -- ---- how an attempt ends: nothing done, or a mark and then stores
 
 pub data Tried (pc : ℕ) (m : Mem) : List Store → Out (Unit {0}) → Type 0 where
-  early : {n : ℕ} → Tried pc m [] (stopped n m)
+  early : {a : Answer} → Tried pc m [] (stopped a m)
   late : {ss : List Store} {o : Out (Unit {0})} → m .used < length (m .journal) → Made (lay (markWord pc) m) ss (memOf o) → Tried pc m ss o
 
 module _ (pc : ℕ) (m : Mem) where
   -- what is taken where a word is left, and where none is
   took : ℕ → Bool → Out (Unit {0})
-  took pc₁ c = pick c (got tt pc₁ (lay (markWord pc) m)) (stopped (number noRoom) m)
+  took pc₁ c = pick c (got tt pc₁ (lay (markWord pc) m)) (stopped (answerFor noRoom) m)
 
   tried-does : (r : Deed) (pc₁ : ℕ) (c : Bool) → room m ≡ c
       → Tried pc m (storesThen (took pc₁ c) (λ _ pc₂ m₂. stores r pc₂ m₂)) (after (took pc₁ c) r)
@@ -69,9 +69,9 @@ module _ (pc : ℕ) (m : Mem) where
   tried-begin (does t) pc₁ = tried-does (ruleOf t) pc₁ _ refl
 
   tried-next : (c : Bool)
-      → Tried pc m (storesThen (pick c (got (getD (m .image) pc 0) (onward pc) m) (stopped (number offGrom) m))
+      → Tried pc m (storesThen (pick c (got (getD (m .image) pc 0) (onward pc) m) (stopped (answerFor (offGrom pc)) m))
       (λ op pc₁ m₁. beginStores pc (classOf op) pc₁ m₁))
-      (then (pick c (got (getD (m .image) pc 0) (onward pc) m) (stopped (number offGrom) m)) (λ op pc₁ m₁. begin pc (classOf op) pc₁ m₁))
+      (then (pick c (got (getD (m .image) pc 0) (onward pc) m) (stopped (answerFor (offGrom pc)) m)) (λ op pc₁ m₁. begin pc (classOf op) pc₁ m₁))
   tried-next true = tried-begin (classOf (getD (m .image) pc 0)) (onward pc)
   tried-next false = early
 
@@ -112,7 +112,7 @@ undo-step {pc} m {ss = ss} a b h t =
     ap (λ (x : Mem). undoTop (x .used) x) (rollback b t) ∙ undo-lay (length ss) (markWord pc) (mark pc) m (note-mark pc a) h
 
 -- so a refused step may be put back word by word: that gives what the rules say of it
-pub rollback-step : {pc : ℕ} {m m₁ : Mem} {ss : List Store} {n : ℕ} → pc < 65536 → Bytes m → Tried pc m ss (stopped n m₁)
+pub rollback-step : {pc : ℕ} {m m₁ : Mem} {ss : List Store} {a : Answer} → pc < 65536 → Bytes m → Tried pc m ss (stopped a m₁)
     → undo (m₁ .used - m .used) m₁ ≡ blanked (m₁ .used - m .used) m
 unfolding undo
 rollback-step {m = m} a b early = rw (sub-self (m .used))

@@ -10,7 +10,7 @@ use lib.ListN.{length, getD, set, take, length-set}
 use lib.Seq.{sets, take-suc-set, append-snoc}
 use borrow.Author.Tests.{ltb-true}
 use Rattle.rules.specs.Machine.{pick, Kind, cpu, vdp, register, reach, Mem, cells, put}
-use Rattle.rules.specs.Answers.{number, noRoom, outside}
+use Rattle.rules.specs.Answers.{Answer, answerFor, noRoom, outside}
 use Rattle.rules.specs.Journal.{lay, Store, storeOf, wordOf, make}
 use Rattle.rules.specs.Rules.{Act, next, grom, ask, jump, load, store, Rule, give, refuse, act, Out, got, stopped, then, room, perform, exec, actStores, storesThen, stores}
 
@@ -37,13 +37,13 @@ made-append (one h t) k = one h (made-append t k)
 
 -- ---- a rule makes its stores: by induction on the rule, an action at a time
 
-made-look : (c : Bool) (v pc n : ℕ) (m : Mem) → Made m [] (memOf (pick c (got v pc m) (stopped n m)))
-made-look true v pc n m = none
-made-look false v pc n m = none
+made-look : (c : Bool) (v pc : ℕ) (a : Answer) (m : Mem) → Made m [] (memOf (pick c (got v pc m) (stopped a m)))
+made-look true v pc a m = none
+made-look false v pc a m = none
 
 made-store : (k : Kind) (a b pc : ℕ) (m : Mem) (c : Bool) → ltb a (reach k) ≡ c → (d : Bool) → room m ≡ d
     → Made m (pick c (pick d (storeOf k a (b % 256) m ∷ []) []) [])
-    (memOf (pick c (pick d (got zero pc (make (storeOf k a (b % 256) m) m)) (stopped (number noRoom) m)) (stopped (number (outside k)) m)))
+    (memOf (pick c (pick d (got zero pc (make (storeOf k a (b % 256) m) m)) (stopped (answerFor noRoom) m)) (stopped (answerFor (outside k a)) m)))
 made-store k a b pc m true e true f =
     one (record { inside = ltb-true _ _ e; byte = mod-lt b (lit< tt); word-left = ltb-true _ _ f; was = refl }) none
 made-store k a b pc m true e false f = none

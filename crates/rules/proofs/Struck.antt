@@ -1,6 +1,6 @@
 -- 02, item 8: "Show that 9 can't be given". Row and column are bytes, so the old test held of every position: with it before screen stores and screen reads a rule
 -- does what it does without, by induction on the rule. And no reason of the table has the number 9.
-use mathlib.Core.Path.{_≡_, refl, _∙_, sym}
+use mathlib.Core.Path.{_≡_, refl, _∙_, ap, sym}
 use mathlib.Core.Logic.{inl, inr}
 use Prim.Native.Nat.{ℕ, _+_, _*_, _%_, _<_}
 use native.Mathlib.Omega.{arith}
@@ -8,6 +8,7 @@ use lib.Dec.{ltb}
 use lib.ListN.{getD}
 use borrow.Author.Tests.{lt-ltb}
 use Rattle.rules.specs.Machine.{pick, cpu, vdp, size, Mem, State, ypt, xpt}
+use Rattle.rules.specs.Answers.{Answer, saying}
 use Rattle.rules.specs.Rules.{Act, Rule, _>>=_, _>>_, Out, got, stopped, then, perform, exec, peek, poke}
 use Rattle.rules.specs.Operands.{position, screenByte, toScreen}
 use Rattle.rules.specs.Format.{show, setCursor, wrapShow}
@@ -43,7 +44,7 @@ pub data Tested (A : Type 0) : Type 0 where
 -- with it: 9, "screen position outside VDP RAM"
 unfoldable pub tested : {A : Type 0} → Tested A → ℕ → Mem → Out A
 tested (act q k) pc m = then (perform q pc m) (λ v. tested (k v))
-tested (screen k) pc m = then (exec position pc m) (λ p pc₁ m₁. pick (ltb p (size vdp)) (tested (k p) pc₁ m₁) (stopped 9 m₁))
+tested (screen k) pc m = then (exec position pc m) (λ p pc₁ m₁. pick (ltb p (size vdp)) (tested (k p) pc₁ m₁) (stopped (saying 9 0) m₁))
 tested (rest r) pc m = exec r pc m
 
 -- without it
@@ -83,13 +84,13 @@ module _ (pc : ℕ) (m : Mem) (b : Bytes m) where
 
 -- ---- no refusal is 9
 
-pub listed-not-9 : {n : ℕ} → Listed n → n ≡ 9 → ⊥
-listed-not-9 l e = never-9 (l .why) (sym (l .is) ∙ e)
+pub listed-not-9 : {a : Answer} → Listed a → a .number ≡ 9 → ⊥
+listed-not-9 l e = never-9 (l .why) (sym (ap (λ (x : Answer). x .number) (l .is)) ∙ e)
 
-pub answered-not-9 : {n : ℕ} → Answered n → n ≡ 9 → ⊥
-answered-not-9 (inl z) e = omega arith
+pub answered-not-9 : {a : Answer} → Answered a → a .number ≡ 9 → ⊥
+answered-not-9 (inl z) e = omega (arith, ap (λ (x : Answer). x .number) z)
 answered-not-9 (inr l) e = listed-not-9 l e
 
-pub back-not-9 : {s : State} {n : ℕ} → BackCause s n → n ≡ 9 → ⊥
+pub back-not-9 : {s : State} {a : Answer} → BackCause s a → a .number ≡ 9 → ⊥
 back-not-9 (wrong-parts f) e = omega arith
 back-not-9 (no-record f l) e = omega arith

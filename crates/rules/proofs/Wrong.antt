@@ -5,6 +5,7 @@ use mathlib.Core.List.{[]}
 use Prim.Native.Nat.{ℕ}
 use native.Mathlib.Omega.{arith}
 use Rattle.rules.specs.Machine.{_also_, Mem, mem, State, state}
+use Rattle.rules.specs.Answers.{Answer, saying}
 use Rattle.rules.specs.Rules.{Out, got, stopped}
 use Rattle.rules.specs.Calls.{imageFits, fits, attempt}
 use Rattle.rules.specs.Demands.{Cause, unfit, stops, Demand1, Demand2, Demand3}
@@ -16,11 +17,11 @@ abbrev Going : Out (Unit {0}) → Type 0
 Going (got a pc m) = Unit {0}
 Going (stopped n m) = ⊥
 
--- refusing everything: what the rules accept is refused with no number at all
-pub refuses-everything : {s t : State} {n pc : ℕ} {m : Mem} → fits (s .mem) ≡ true → attempt s ≡ got tt pc m → Demand1 s n t → ⊥
+-- refusing everything: what the rules accept is refused with no answer at all
+pub refuses-everything : {s t : State} {a : Answer} {pc : ℕ} {m : Mem} → fits (s .mem) ≡ true → attempt s ≡ got tt pc m → Demand1 s a t → ⊥
 refuses-everything {s} f e d = go (d .cause)
   where
-    go : {n : ℕ} → Cause s n → ⊥
+    go : {a : Answer} → Cause s a → ⊥
     go (unfit u) = false-true (sym u ∙ f)
     go (stops _ k) = subst Going (sym e ∙ k) tt
 
@@ -28,11 +29,11 @@ refuses-everything {s} f e d = go (d .cause)
 nowhere : State
 nowhere = state 0 (mem [] [] [] [] [] 0)
 
-pub answers-2 : ((s : State) → Demand1 s 2 s) → ⊥
+pub answers-2 : (a : ℕ) → ((s : State) → Demand1 s (saying 2 a) s) → ⊥
 unfolding nowhere imageFits _also_
-answers-2 d = go (d nowhere .cause)
+answers-2 a d = go (d nowhere .cause)
   where
-    go : Cause nowhere 2 → ⊥
+    go : Cause nowhere (saying 2 a) → ⊥
     go (stops f _) = false-true f
 
 -- ---- demand 2

@@ -5,7 +5,7 @@ use Prim.Native.Nat.{ℕ, zero, suc, _+_, _-_, _*_, _%_}
 use lib.Dec.{leb, eqb}
 use lib.ListN.{length, getD, take, drop}
 use Rattle.rules.specs.Machine.{pick, _also_, Kind, cpu, vdp, register, size, reach, group, Mem, State, state}
-use Rattle.rules.specs.Answers.{number, noRoom, wrongLength, noRecord}
+use Rattle.rules.specs.Answers.{Answer, well, answerFor, noRoom, wrongLength, noRecord}
 use Rattle.rules.specs.Journal.{markWord, lay, Store, Note, stood, mark, nothing, note, sound, undo, blanked}
 use Rattle.rules.specs.Rules.{Out, got, stopped, then, after, room, next, perform, stores, storesThen}
 use Rattle.rules.specs.Opcodes.{Class, stops, does, classOf}
@@ -31,26 +31,26 @@ fits m = imageFits (length (m .image)) also memFits m
 
 -- ---- a step
 
--- what a call leaves: done, or refused by a number; and the address and memories with which it comes back
+-- what a call leaves: done, or refused with an answer; and the address and memories with which it comes back
 pub data Reply : Type 0 where
   done : State → Reply
-  refused : ℕ → State → Reply
+  refused : Answer → State → Reply
 
-abbrev pub answer : Reply → ℕ
-answer (done s) = 0
-answer (refused n s) = n
+abbrev pub answer : Reply → Answer
+answer (done s) = well
+answer (refused a s) = a
 
 abbrev pub left : Reply → State
 left (done s) = s
-left (refused n s) = s
+left (refused a s) = s
 
 -- "kind 3 is a mark and carries the old pc": pc is where the opcode stood, pc₁ is past it
 unfoldable pub takeMark : ℕ → ℕ → Mem → Out (Unit {0})
-takeMark pc pc₁ m = pick (room m) (got tt pc₁ (lay (markWord pc) m)) (stopped (number noRoom) m)
+takeMark pc pc₁ m = pick (room m) (got tt pc₁ (lay (markWord pc) m)) (stopped (answerFor noRoom) m)
 
 -- "A step takes a mark word first, for every opcode that 2, 3 and 1 don't stop."
 unfoldable pub begin : ℕ → Class → ℕ → Mem → Out (Unit {0})
-begin pc (stops why) pc₁ m = stopped (number why) m
+begin pc (stops why) pc₁ m = stopped (answerFor why) m
 begin pc (does t) pc₁ m = after (takeMark pc pc₁ m) (ruleOf t)
 
 unfoldable pub attempt : State → Out (Unit {0})
@@ -59,7 +59,7 @@ attempt s = then (perform next (s .pc) (s .mem)) (λ op pc₁ m. begin (s .pc) (
 -- "A refused step puts all back; the journal words it had taken become 0."
 abbrev pub settle : State → Out (Unit {0}) → Reply
 settle s (got a pc₁ m) = done (state pc₁ m)
-settle s (stopped n m) = refused n (state (s .pc) (blanked (m .used - s .mem .used) (s .mem)))
+settle s (stopped a m) = refused a (state (s .pc) (blanked (m .used - s .mem .used) (s .mem)))
 
 -- a step of a machine whose parts fit
 unfoldable pub fitStep : State → Reply
@@ -67,7 +67,7 @@ fitStep s = settle s (attempt s)
 
 -- "Answer 11 is tested first and touches nothing."
 unfoldable pub step : State → Reply
-step s = pick (fits (s .mem)) (fitStep s) (refused (number wrongLength) s)
+step s = pick (fits (s .mem)) (fitStep s) (refused (answerFor wrongLength) s)
 
 -- ---- its stores: "the number of byte stores those steps made"
 
@@ -81,18 +81,18 @@ stepStores s = storesThen (perform next (s .pc) (s .mem)) (λ op pc₁ m. beginS
 -- those of a step that was done; a refused one has made none
 abbrev pub made : State → Reply → ℕ
 made s (done t) = length (stepStores s)
-made s (refused n t) = 0
+made s (refused a t) = 0
 
 -- ---- a run
 
 -- "reports answer, steps done, and the number of byte stores those steps made"
 pub record Report : Type 0 where
-  pub answer : ℕ
+  pub answer : Answer
   pub steps : ℕ
   pub stores : ℕ
   pub end : State
 
-abbrev pub report : ℕ → ℕ → ℕ → State → Report
+abbrev pub report : Answer → ℕ → ℕ → State → Report
 report a k n s = record { answer = a; steps = k; stores = n; end = s }
 
 -- after a step that made n stores goes a run; after one that was refused, none: "stops at the first answer other than 0"
@@ -102,12 +102,12 @@ onto (refused a t) n r = report a 0 0 t
 
 -- "up to n .. steps"
 unfoldable pub steps : ℕ → State → Report
-steps zero s = report 0 0 0 s
+steps zero s = report well 0 0 s
 steps (suc n) s = onto (step s) (length (stepStores s)) (steps n (left (step s)))
 
 -- "n = 0 answers 0 after test 11."
 unfoldable pub run : ℕ → State → Report
-run n s = pick (fits (s .mem)) (steps n s) (report (number wrongLength) 0 0 s)
+run n s = pick (fits (s .mem)) (steps n s) (report (answerFor wrongLength) 0 0 s)
 
 -- ---- a step back
 
@@ -139,14 +139,14 @@ scan (suc u) j = seen (note (getD j u 0)) (scan u j)
 -- "Step-back takes words from the top down to the newest mark, restores each, sets pc, zeroes them. It answers 12, touching nothing, exactly if .."
 abbrev pub backTo : Find → State → Reply
 backTo (found n pc) s = done (state pc (undo n (s .mem)))
-backTo lost s = refused (number noRecord) s
+backTo lost s = refused (answerFor noRecord) s
 
 unfoldable pub fitBack : State → Reply
 fitBack s = backTo (scan (s .mem .used) (s .mem .journal)) s
 
 -- 11 first
 unfoldable pub stepBack : State → Reply
-stepBack s = pick (memFits (s .mem)) (fitBack s) (refused (number wrongLength) s)
+stepBack s = pick (memFits (s .mem)) (fitBack s) (refused (answerFor wrongLength) s)
 
 -- ---- the viewer
 

@@ -25,8 +25,9 @@ pub record Case : Type 0 where
   pub given : List Holds
   pub from : ℕ
   pub run : ℕ
-  -- to come out: answer, steps and stores, pc, and these cells
+  -- to come out: answer and address, steps and stores, pc, and these cells
   pub answer : ℕ
+  pub address : ℕ
   pub steps : ℕ
   pub stores : ℕ
   pub pc : ℕ
@@ -73,7 +74,7 @@ bench codes =
 
 abbrev pub comesOut : Case → Report → Bool
 comesOut c r =
-    eqb (r .answer) (c .answer) also eqb (r .steps) (c .steps) also eqb (r .stores) (c .stores)
+    eqb (r .answer .number) (c .answer) also eqb (r .answer .address) (c .address) also eqb (r .steps) (c .steps) also eqb (r .stores) (c .stores)
     also eqb (r .end .pc) (c .pc) also allHold (c .left) (r .end .mem)
 
 unfoldable pub passes : Case → Bool
@@ -88,7 +89,7 @@ everyPasses (c ∷ cs) = passes c also everyPasses cs
 -- one step of some code, which is done: the number of stores, the pc and the cells that it leaves
 abbrev pub card : Code → List Holds → ℕ → ℕ → List Holds → Case
 card first given stores pc left =
-    record { image = first ∷ []; given = given; from = 0; run = 1; answer = 0; steps = 1; stores = stores; pc = pc; left = left }
+    record { image = first ∷ []; given = given; from = 0; run = 1; answer = 0; address = 0; steps = 1; stores = stores; pc = pc; left = left }
 
 -- ">43 at >1FFF, >10 at 0, pc >1FFF: pc >0310."
 abbrev pub cardJ : Case
@@ -99,6 +100,7 @@ cardJ =
       from = 0x1FFF;
       run = 1;
       answer = 0;
+      address = 0;
       steps = 1;
       stores = 1;
       pc = 0x0310;
@@ -138,11 +140,12 @@ cards =
 -- a run of at most n steps from the first byte of some code at 0: its answer, steps, stores, pc, and cells
 abbrev pub runs : Code → List Holds → ℕ → ℕ → ℕ → ℕ → ℕ → List Holds → Case
 runs first given n answer steps stores pc left =
-    record { image = first ∷ []; given = given; from = 0; run = n; answer = answer; steps = steps; stores = stores; pc = pc; left = left }
+    record { image = first ∷ []; given = given; from = 0; run = n; answer = answer; address = 0; steps = steps; stores = stores; pc = pc; left = left }
 
--- one step that is refused: its answer
-abbrev pub refuses : Code → List Holds → ℕ → Case
-refuses first given answer = runs first given 1 answer 0 0 0 []
+-- one step that is refused: its answer and its address
+abbrev pub refuses : Code → List Holds → ℕ → ℕ → Case
+refuses first given answer address =
+    record { image = first ∷ []; given = given; from = 0; run = 1; answer = answer; address = address; steps = 0; stores = 0; pc = 0; left = [] }
 
 abbrev pub facts : List Case
 facts =
@@ -159,7 +162,7 @@ facts =
     ∷ card (code 3 0xB20001 0) (pad 0 1 ∷ []) 2 3 (pad 0 1 ∷ pad status 0xC0 ∷ [])
     -- "VDP >3FFF as byte passes, as word 5"
     ∷ card (code 4 0x86AF3FFF 0) (vram 0x3FFF 1 ∷ []) 1 4 (vram 0x3FFF 0 ∷ [])
-    ∷ refuses (code 4 0x87AF3FFF 0) [] 5
+    ∷ refuses (code 4 0x87AF3FFF 0) [] 5 0x4000
     -- "16 calls deep pass, the 17th is 7"
     ∷ runs (code 3 0x060000 0) [] 16 0 16 64 0 (pad subPointer 0x9E ∷ pad 0x9F 3 ∷ [])
     ∷ runs (code 3 0x060000 0) [] 17 7 16 64 0 (pad subPointer 0x9E ∷ pad 0x9F 3 ∷ [])
@@ -167,7 +170,7 @@ facts =
     ∷ card (code 7 0x318001A0000000 0) [] 5 7 (vram 0 0x31 ∷ vram 1 0 ∷ pad subPointer 0x7E ∷ [])
     ∷ card (code 7 0x310000A0000000 0) [] 5 7 (vram 0 0x31 ∷ vram 1 0 ∷ pad subPointer 0x7E ∷ [])
     -- "GROM source addresses count in 16 bits": the third byte is beyond an image of one group
-    ∷ refuses (code 7 0x310003A0001FFE 0) [] 6
+    ∷ refuses (code 7 0x310003A0001FFE 0) [] 6 0x2000
     -- "A byte for register 1 has bit >80 set .. and goes to >D4 first, then to the register."
     ∷ card (code 6 0x390001010001 0) [] 6 6 (reg 1 0x80 ∷ pad registerCopy 0x80 ∷ [])
     ∷ card (code 6 0x390001010000 0) [] 6 6 (reg 1 0xB9 ∷ pad registerCopy 0xB9 ∷ [])
@@ -206,4 +209,53 @@ bufferFacts =
     -- both stores of EX
     ∷ card (code 3 0xC07D00 0) (screen 0x55 7 (pad 0 0x41 ∷ [])) 4 3 (screen 0x41 0x41 (pad 0 0x55 ∷ []))
     ∷ card (code 3 0xC0007D 0) (screen 0x55 7 (pad 0 0x41 ∷ [])) 4 3 (screen 0x41 0x41 (pad 0 0x55 ∷ []))
+    ∷ []
+
+-- ---- 02, item 2: "the offending 16-bit address .. must come out with the refusal"
+
+abbrev pub addressFacts : List Case
+addressFacts =
+    -- a fetch: the opcode, beyond an image of one group
+    record { image = []; given = []; from = 0x2000; run = 1; answer = 6; address = 0x2000; steps = 0; stores = 0; pc = 0x2000; left = [] }
+    -- an operand: a byte; "of a word, the first byte out of range"
+    ∷ refuses (code 3 0x9080E0 0) [] 4 0xE0
+    ∷ refuses (code 3 0x9180DF 0) [] 4 0xE0
+    ∷ refuses (code 4 0x918FFFFF 0) [] 4 0xFFFF
+    ∷ refuses (code 4 0x90AF4001 0) [] 5 0x4001
+    ∷ refuses (code 4 0x91AF3FFF 0) [] 5 0x4000
+    -- an index word, and the cell after it
+    ∷ refuses (code 4 0x90C000DF 0) [] 4 0xE0
+    ∷ refuses (code 4 0x90C000E5 0) [] 4 0xE5
+    ∷ refuses (code 4 0x90C00A20 0) (pad 0x20 0xFF ∷ []) 4 0xFF0A
+    -- a pointer, byte and word, and what it holds
+    ∷ refuses (code 3 0x9090E2 0) [] 4 0xE2
+    ∷ refuses (code 3 0x90B0DF 0) [] 4 0xE0
+    ∷ refuses (code 3 0x919010 0) (pad 0x10 0xDF ∷ []) 4 0xE0
+    ∷ refuses (code 3 0x90B010 0) (pad 0x10 0x51 ∷ pad 0x11 0x23 ∷ []) 5 0x5123
+    -- the second half of MUL; DIV's low half, of a byte and of a word
+    ∷ refuses (code 4 0xAA80DF02 0) [] 4 0xE0
+    ∷ refuses (code 5 0xAAAF3FFF02 0) [] 5 0x4000
+    ∷ refuses (code 4 0xAE80DF02 0) [] 4 0xE0
+    ∷ refuses (code 5 0xAF80DE0002 0) [] 4 0xE0
+    -- a MOVE: its source's index word, its source in the pad and in VDP RAM, its destination
+    ∷ refuses (code 7 0x330001000000DF 0) [] 4 0xE0
+    ∷ refuses (code 6 0x3500020080DF 0) [] 4 0xE0
+    ∷ refuses (code 7 0x35000200AF3FFF 0) [] 5 0x4000
+    ∷ refuses (code 7 0x31000280DF0000 0) [] 4 0xE0
+    ∷ refuses (code 8 0x310002AF3FFF0000 0) [] 5 0x4000
+    -- FETCH: the top word
+    ∷ refuses (code 2 0x8800 0) (pad subPointer 0x80 ∷ pad 0x80 0x90 ∷ pad 0x81 0x01 ∷ []) 6 0x9001
+    -- "of a format operand, its VDP cell"; beyond VDP RAM it is no cell; text from the pad
+    ∷ refuses (code 4 0x08FDA010 0) [] 4 0x10
+    ∷ refuses (code 5 0x08FDAF5000 0) [] 5 0x5000
+    ∷ refuses (code 4 0x08E380DE 0) [] 4 0xE0
+    -- a block's address
+    ∷ refuses (code 5 0x08C1FB9ABC 0) [] 6 0x9ABC
+    -- "It is 0 for every other answer": EXIT, no such instruction, a stack pointer, a VDP register
+    ∷ refuses (code 1 0x0B 0) [] 1 0
+    ∷ refuses (code 1 0x0E 0) [] 2 0
+    ∷ refuses (code 2 0x8800 0) (pad subPointer 0xE0 ∷ []) 7 0
+    ∷ refuses (code 6 0x390001080000 0) [] 13 0
+    -- "the first cause met in 01's order": the destination before the source
+    ∷ refuses (code 5 0xA080E080E1 0) [] 4 0xE0
     ∷ []

@@ -5,7 +5,7 @@ use mathlib.Core.List.{List, [], _∷_, _++_, map}
 use Prim.Native.Nat.{ℕ, zero, suc, _+_, _-_, _<_}
 use lib.ListN.{length, getD, take}
 use Rattle.rules.specs.Machine.{pick, Kind, Mem, State, cells}
-use Rattle.rules.specs.Answers.{Why, number, wrongLength, noRecord}
+use Rattle.rules.specs.Answers.{Why, Answer, well, answerFor, wrongLength, noRecord}
 use Rattle.rules.specs.Journal.{markWord, wordOf, blank}
 use Rattle.rules.specs.Rules.{Out, got, stopped}
 use Rattle.rules.specs.Calls.{memFits, fits, Reply, done, refused, left, attempt, step, stepStores, lost, scan, stepBack, Report, report}
@@ -23,38 +23,38 @@ pub record Good (s : State) : Type 0 where
 
 abbrev pub Accepted : Reply → Type 0
 Accepted (done s) = Unit {0}
-Accepted (refused n s) = ⊥
+Accepted (refused a s) = ⊥
 
 abbrev pub Refused : Reply → Type 0
 Refused (done s) = ⊥
-Refused (refused n s) = Unit {0}
+Refused (refused a s) = Unit {0}
 
 -- ---- demand 1
 
 -- a refusal that the table of answers has
-pub record Listed (n : ℕ) : Type 0 where
+pub record Listed (a : Answer) : Type 0 where
   pub why : Why
-  pub is : n ≡ number why
+  pub is : a ≡ answerFor why
 
--- why a step of s is refused with n: test 11 fails, or the rules' attempt stops so
-pub data Cause (s : State) : ℕ → Type 0 where
-  unfit : fits (s .mem) ≡ false → Cause s (number wrongLength)
-  stops : {n : ℕ} {m : Mem} → fits (s .mem) ≡ true → attempt s ≡ stopped n m → Cause s n
+-- why a step of s is refused with an answer: test 11 fails, or the rules' attempt stops so
+pub data Cause (s : State) : Answer → Type 0 where
+  unfit : fits (s .mem) ≡ false → Cause s (answerFor wrongLength)
+  stops : {a : Answer} {m : Mem} → fits (s .mem) ≡ true → attempt s ≡ stopped a m → Cause s a
 
 -- how many journal words are in use where an attempt ends
 abbrev pub usedOf : Out (Unit {0}) → ℕ
 usedOf (got a pc m) = m .used
-usedOf (stopped n m) = m .used
+usedOf (stopped a m) = m .used
 
 -- "the journal words that it had begun to use": none where test 11 fails
 abbrev pub begunWords : State → ℕ
 begunWords s = pick (fits (s .mem)) (usedOf (attempt s) - s .mem .used) 0
 
--- What is so of the state t that a step of s leaves which is refused with n:
-pub record Demand1 (s : State) (n : ℕ) (t : State) : Type 0 where
+-- What is so of the state t that a step of s leaves which is refused with an answer:
+pub record Demand1 (s : State) (a : Answer) (t : State) : Type 0 where
   -- "gives exactly the refusal that document 01 lists for that input"
-  pub cause : Cause s n
-  pub listed : Listed n
+  pub cause : Cause s a
+  pub listed : Listed a
   -- "A refused step returns program address, CPU RAM, VDP RAM and VDP registers to their values before it"
   pub address : t .pc ≡ s .pc
   pub memories : (k : Kind) → cells k (t .mem) ≡ cells k (s .mem)
@@ -62,10 +62,10 @@ pub record Demand1 (s : State) (n : ℕ) (t : State) : Type 0 where
   -- "and zeroes only the journal words that it had begun to use"
   pub words : t .mem .journal ≡ blank (begunWords s) (s .mem .used) (s .mem .journal)
 
--- why a step back of s is refused with n: test 11 fails, or no sound record is found
-pub data BackCause (s : State) : ℕ → Type 0 where
-  wrong-parts : memFits (s .mem) ≡ false → BackCause s (number wrongLength)
-  no-record : memFits (s .mem) ≡ true → scan (s .mem .used) (s .mem .journal) ≡ lost → BackCause s (number noRecord)
+-- why a step back of s is refused with an answer: test 11 fails, or no sound record is found
+pub data BackCause (s : State) : Answer → Type 0 where
+  wrong-parts : memFits (s .mem) ≡ false → BackCause s (answerFor wrongLength)
+  no-record : memFits (s .mem) ≡ true → scan (s .mem .used) (s .mem .journal) ≡ lost → BackCause s (answerFor noRecord)
 
 -- ---- demand 2
 
@@ -129,8 +129,8 @@ total (suc n) s = total n s + length (stepStores (forward n s))
 
 -- how a run of at most n steps ends: all n are made, or k are and the next is refused
 pub data Ends (n : ℕ) (s : State) : Report → Type 0 where
-  full : AllAccepted n s → Ends n s (report 0 n (total n s) (forward n s))
-  cut : {k a : ℕ} {t : State} → k < n → AllAccepted k s → step (forward k s) ≡ refused a t → Ends n s (report a k (total k s) t)
+  full : AllAccepted n s → Ends n s (report well n (total n s) (forward n s))
+  cut : {k : ℕ} {a : Answer} {t : State} → k < n → AllAccepted k s → step (forward k s) ≡ refused a t → Ends n s (report a k (total k s) t)
 
 -- ---- demand 3
 

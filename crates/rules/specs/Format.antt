@@ -72,11 +72,11 @@ repeatText n step bias = do
 abbrev pub isCpu : Kind → Bool
 isCpu k = upon k true false false
 
--- "a CPU operand": 4 for "a format operand decoded to a VDP cell"
+-- "a CPU operand": 4 for "a format operand decoded to a VDP cell", with "its VDP cell" for the address
 unfoldable pub cpuOperand : Rule ℕ
 cpuOperand = do
   c ← place
-  need (isCpu (c .kind)) offCpu
+  need (isCpu (c .kind)) (offCpu (c .at))
   give (c .at)
 
 unfoldable pub showCell : ℕ → ℕ → Deed

@@ -98,10 +98,14 @@ anyCell b = pick (ltb b 0x80) (give (cell cpu b)) (farCell b)
 abbrev pub inReach : ℕ → Cell → Bool
 inReach n c = leb (c .at + n) (reach (c .kind))
 
+-- 02, item 2: "of a word, the first byte out of range"
+abbrev pub firstOut : Cell → ℕ
+firstOut c = pick (ltb (c .at) (reach (c .kind))) (reach (c .kind)) (c .at)
+
 -- "A word operand needs both bytes in range."
 unfoldable pub reached : ℕ → Cell → Rule Cell
 reached n c = do
-  need (inReach n c) (outside (c .kind))
+  need (inReach n c) (outside (c .kind) (firstOut c))
   give c
 
 -- "The result of decoding is a CPU cell, a VDP cell or a refusal."

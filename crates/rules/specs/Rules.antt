@@ -5,7 +5,7 @@ use Prim.Native.Nat.{ℕ, _+_, _%_}
 use lib.Dec.{ltb}
 use lib.ListN.{length, getD}
 use Rattle.rules.specs.Machine.{pick, Kind, reach, Mem, cells, onward, joined}
-use Rattle.rules.specs.Answers.{Why, number, offGrom, noRoom, outside}
+use Rattle.rules.specs.Answers.{Why, Answer, answerFor, offGrom, noRoom, outside}
 use Rattle.rules.specs.Journal.{Store, storeOf, make}
 
 -- ---- the language
@@ -48,10 +48,10 @@ _>>_ r s = r >>= (λ _. s)
 
 -- ---- what it does
 
--- what a rule leaves: its value, pc and memories; or a refusal's number, and the memories as they then stood
+-- what a rule leaves: its value, pc and memories; or a refusal, and the memories as they then stood
 pub data Out (A : Type 0) : Type 0 where
   got : A → ℕ → Mem → Out A
-  stopped : ℕ → Mem → Out A
+  stopped : Answer → Mem → Out A
 
 -- "Then a step's reads and stores go in the order of this paper; the first cause met is the answer."
 abbrev pub then : {A B : Type 0} → Out A → (A → ℕ → Mem → Out B) → Out B
@@ -64,19 +64,19 @@ room m = ltb (m .used) (length (m .journal))
 
 -- one action on a program address and the memories. "For one store, 4, 5, .. or 13 comes before 10."
 unfoldable pub perform : Act → ℕ → Mem → Out ℕ
-perform next pc m = pick (ltb pc (length (m .image))) (got (getD (m .image) pc 0) (onward pc) m) (stopped (number offGrom) m)
-perform (grom a) pc m = pick (ltb a (length (m .image))) (got (getD (m .image) a 0) pc m) (stopped (number offGrom) m)
+perform next pc m = pick (ltb pc (length (m .image))) (got (getD (m .image) pc 0) (onward pc) m) (stopped (answerFor (offGrom pc)) m)
+perform (grom a) pc m = pick (ltb a (length (m .image))) (got (getD (m .image) a 0) pc m) (stopped (answerFor (offGrom a)) m)
 perform ask pc m = got pc pc m
 perform (jump a) pc m = got 0 (a % 65536) m
-perform (load k a) pc m = pick (ltb a (reach k)) (got (getD (cells k m) a 0) pc m) (stopped (number (outside k)) m)
+perform (load k a) pc m = pick (ltb a (reach k)) (got (getD (cells k m) a 0) pc m) (stopped (answerFor (outside k a)) m)
 perform (store k a b) pc m =
     pick (ltb a (reach k))
-    (pick (room m) (got 0 pc (make (storeOf k a (b % 256) m) m)) (stopped (number noRoom) m))
-    (stopped (number (outside k)) m)
+    (pick (room m) (got 0 pc (make (storeOf k a (b % 256) m) m)) (stopped (answerFor noRoom) m))
+    (stopped (answerFor (outside k a)) m)
 
 unfoldable pub exec : {A : Type 0} → Rule A → ℕ → Mem → Out A
 exec (give a) pc m = got a pc m
-exec (refuse why) pc m = stopped (number why) m
+exec (refuse why) pc m = stopped (answerFor why) m
 exec (act q k) pc m = then (perform q pc m) (λ v pc₁ m₁. exec (k v) pc₁ m₁)
 
 -- a rule after what went before it

@@ -46,7 +46,7 @@ fn obey_field(
     journal: &mut [u32; 16384],
     at: At,
 ) -> Stand {
-    let mut out = [0u8; 216502];
+    let mut out = [0u8; 216507];
     obey::obey(text, 0, image, pad, vram, regs, journal, at, &mut out)
 }
 
@@ -109,7 +109,7 @@ fn as_said(
     r: Report,
 ) -> bool {
     let mut line = [0u8; 80];
-    let count = print::put_answer(&mut line, 0, r.answer, r.steps, r.stores);
+    let count = print::put_answer(&mut line, 0, r.answer, r.steps, r.stores, r.address);
     let answer = fields::unended(&line, count);
     let course = obey_fields(case, first, answer, text, image, pad, vram, regs, journal);
     if course.ran {

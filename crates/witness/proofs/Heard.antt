@@ -5,7 +5,8 @@ use Prim.Native.Nat.{ℕ}
 use native.Mathlib.Omega.{arith}
 use borrow.Author.Tests.{ne-eqb}
 use Rattle.rules.specs.Machine.{State}
-use Rattle.rules.specs.Calls.{Reply, done, refused, Report, run}
+use Rattle.rules.specs.Answers.{Answer}
+use Rattle.rules.specs.Calls.{Reply, done, refused, answer, step, made, stepBack, Report, run}
 use Rattle.rules.specs.Demands.{Good}
 use Rattle.rules.proofs.Named.{NamedReply, named-step, named-back}
 use Rattle.rules.proofs.Opcodes.{never-done}
@@ -20,27 +21,27 @@ use Rattle.witness.proofs.Borne.{step-bears, back-bears, run-bears}
 
 -- a report read as a reply, and that this undoes the counting
 replied : Report → Outcome
-replied r = outcome (replies (r .answer) (r .end)) (r .stores)
+replied r = record { reply = replies (r .answer) (r .end); address = r .answer .address; stores = r .stores }
 
-uncounted : (q : Reply) (n : ℕ) → NamedReply q → replied (tallied q n) ≡ outcome q n
+uncounted : (q : Reply) (n : ℕ) → NamedReply q → replied (tallied q (answer q .address) n) ≡ outcome q n
 unfolding replied replies
 uncounted (done t) n h = refl
 uncounted (refused a t) n h =
-    let ne : a ≡ 0 → ⊥ = λ z. omega (arith, never-done (h .why), h .is) in
-    rw (ne-eqb a 0 ne)
+    let ne : a .number ≡ 0 → ⊥ = λ z. omega (arith, never-done (h .why), ap (λ (b : Answer). b .number) (h .is)) in
+    rw (ne-eqb (a .number) 0 ne)
 
-heard-reply : (f : State → Outcome) (s : State) (x : Returned Numbers) → NamedReply (f s .reply) → heard x ≡ counted (f s) → Tells told f s (asReply x)
+heard-reply : (q : Reply) (n : ℕ) (x : Returned Numbers) → NamedReply q → heard x ≡ counted (outcome q n) → told (asReply x) ≡ outcome q n
 unfolding heard counted replied
-heard-reply f s x h e = record { is = ap replied e ∙ uncounted (f s .reply) (f s .stores) h }
+heard-reply q n x h e = ap replied e ∙ uncounted q n h
 
 -- ---- each call
 
 module _ {s : State} {x : Returned Numbers} where
   step-told : Tells heard oneStep s x → Tells told stepping s (asReply x)
-  step-told e = heard-reply stepping s x (named-step s) (e .is)
+  step-told e = record { is = heard-reply (step s) (made s (step s)) x (named-step s) (e .is) }
 
   back-told : Tells heard oneBack s x → Tells told backing s (asReply x)
-  back-told e = heard-reply backing s x (named-back s) (e .is)
+  back-told e = record { is = heard-reply (stepBack s) 0 x (named-back s) (e .is) }
 
   run-told : (n : ℕ) → Tells heard (run n) s x → Tells reported (run n) s (asReport x)
   unfolding heard

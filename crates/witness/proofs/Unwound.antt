@@ -5,6 +5,7 @@ use Prim.Native.Nat.{ℕ, zero, suc, _-_, _<_}
 use native.Mathlib.Omega.{arith}
 use lib.ListN.{length, take}
 use Rattle.rules.specs.Machine.{cpu, vdp, register, Mem, mem, State, state, cells}
+use Rattle.rules.specs.Answers.{Answer}
 use Rattle.rules.specs.Journal.{Store}
 use Rattle.rules.specs.Calls.{Reply, done, refused, left, step, stepStores, stepBack, Report, run}
 use Rattle.rules.specs.Demands.{Good, forward, Ends, full, cut}
@@ -63,10 +64,10 @@ alike {s} {t} e =
 
 -- ---- where a run has led
 
-unchanged : (s : State) (ss : List Store) (r : Reply) {n : ℕ} {t : State} → Settled s ss r → r ≡ refused n t → clearS t ≡ clearS s
-unchanged s ss r {n} {t} h e = go (subst (Settled s ss) e h)
+unchanged : (s : State) (ss : List Store) (r : Reply) {a : Answer} {t : State} → Settled s ss r → r ≡ refused a t → clearS t ≡ clearS s
+unchanged s ss r {a} {t} h e = go (subst (Settled s ss) e h)
   where
-    go : Settled s ss (refused n t) → clearS t ≡ clearS s
+    go : Settled s ss (refused a t) → clearS t ≡ clearS s
     go u = ap clearS (u .same) ∙ ap (state (s .pc)) (clear-blanked (u .taken) (s .mem))
 
 ended : {s₀ : State} {n : ℕ} {r : Report} → Good s₀ → Ends n s₀ r → Behind s₀ (r .steps) (r .end)

@@ -4,7 +4,7 @@ use mathlib.Core.Bool.{true, false}
 use Prim.Native.Nat.{ℕ}
 use lib.ListN.{length, take}
 use Rattle.rules.specs.Machine.{Kind, State, cells}
-use Rattle.rules.specs.Answers.{number, wrongLength}
+use Rattle.rules.specs.Answers.{saying, answerFor, wrongLength}
 use Rattle.rules.specs.Calls.{fits, done, stepBack, report}
 use Rattle.rules.specs.Demands.{Good, Demand1, BackCause, Demand2, AllAccepted, forward, Ends, Demand3}
 use Rattle.machine.specs.Meaning.{Parts, Rest, unseenAll, memAfter}
@@ -21,19 +21,19 @@ Meets D parts at r = (rest : Rest (parts unseenAll)) → D (lentTo (parts unseen
 -- ---- a step: demand 1, or demand 2
 
 pub data Step (s : State) (x : Returned Reply) : Type 0 where
-  refused : (x .result .answer ≡ 0 → ⊥) → Demand1 s (x .result .answer) (leaves x) → x .result .stores ≡ 0 → Step s x
+  refused : (x .result .answer ≡ 0 → ⊥) → Demand1 s (saying (x .result .answer) (x .result .address)) (leaves x) → x .result .stores ≡ 0 → Step s x
   accepted : x .result .answer ≡ 0 → Demand2 s (leaves x) (x .result .stores) → Step s x
 
 -- ---- a step back: refused for its cause, with all as it was, or the rules' own
 
 pub data Back (s : State) (x : Returned Reply) : Type 0 where
-  refused : (x .result .answer ≡ 0 → ⊥) → BackCause s (x .result .answer) → leaves x ≡ s → Back s x
+  refused : (x .result .answer ≡ 0 → ⊥) → BackCause s (saying (x .result .answer) (x .result .address)) → leaves x ≡ s → Back s x
   accepted : x .result .answer ≡ 0 → stepBack s ≡ done (leaves x) → Back s x
 
 -- ---- a run
 
 pub data Run (n : ℕ) (s : State) (x : Returned Report) : Type 0 where
-  unfit : fits (s .mem) ≡ false → reported x ≡ report (number wrongLength) 0 0 s → Run n s x
+  unfit : fits (s .mem) ≡ false → reported x ≡ report (answerFor wrongLength) 0 0 s → Run n s x
   fit : fits (s .mem) ≡ true → Ends n s (reported x) → Run n s x
 
 -- ---- there and back again: address and memories as before

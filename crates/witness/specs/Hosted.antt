@@ -19,15 +19,15 @@ use Rattle.export.specs.Meaning.{Numbers, heard, oneStep, oneBack, bytesOf, sho
 abbrev pub beside : {A B : Type 0} → (A → B) → Returned A → Returned B
 beside f x = returned (x .image) (x .pad) (x .vram) (x .regs) (x .journal) (f (x .result))
 
--- `out` has pc, used words, steps and stores, in this order
+-- `out` has pc, used words, steps, stores and address, in this order
 abbrev pub atOf : Numbers → At
 atOf n = record { pc = getD (n .out) 0 0; used = getD (n .out) 1 0 }
 
 abbrev pub asReply : Returned Numbers → Returned Reply
-asReply = beside (λ n. record { answer = n .answer; stores = getD (n .out) 3 0; at = atOf n })
+asReply = beside (λ n. record { answer = n .answer; address = getD (n .out) 4 0; stores = getD (n .out) 3 0; at = atOf n })
 
 abbrev pub asReport : Returned Numbers → Returned Report
-asReport = beside (λ n. record { answer = n .answer; steps = getD (n .out) 2 0; stores = getD (n .out) 3 0; at = atOf n })
+asReport = beside (λ n. record { answer = n .answer; address = getD (n .out) 4 0; steps = getD (n .out) 2 0; stores = getD (n .out) 3 0; at = atOf n })
 
 -- what a call was lent, and what it hands back, whatever the rest of the machine is
 abbrev pub HandsBack : (State → Returned Numbers → Type 0) → (Parts → Parts) → ℕ → ℕ → ℕ → Lent → Type 0

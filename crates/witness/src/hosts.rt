@@ -12,7 +12,7 @@ pub fn step(
     journal: &mut [u32],
     pc: u16,
     used: usize,
-    out: &mut [u64; 4],
+    out: &mut [u64; 5],
 ) -> u8
     ensures { λ r. ⌜ RepliesIn Step (Image image & Pad pad & Vram vdp & Regs reg & Journal journal) pc used r out ⌝ }
 {
@@ -27,7 +27,7 @@ pub fn step_back(
     journal: &mut [u32],
     pc: u16,
     used: usize,
-    out: &mut [u64; 4],
+    out: &mut [u64; 5],
 ) -> u8
     ensures { λ r. ⌜ RepliesIn Back (Pad pad & Vram vdp & Regs reg & Journal journal) pc used r out ⌝ }
 {
@@ -44,7 +44,7 @@ pub fn run(
     pc: u16,
     used: usize,
     n: u32,
-    out: &mut [u64; 4],
+    out: &mut [u64; 5],
 ) -> u8
     ensures { λ r. ⌜ ReportsIn (Run n) (Image image & Pad pad & Vram vdp & Regs reg & Journal journal) pc used r out ⌝ }
 {

@@ -16,6 +16,12 @@ poke-pad-requires c κs =
     let start = at-read-target .before .before .before .before .before .before .before .before in
     at-source .source .kept .1 .0 ∙ at-read-target .read-target .kept .1 .0 ∙ start .pre .0
 
+low-half-requires : tie.Need-low-half-requires
+low-half-requires c κs =
+    let at-source = c .before .before .before .before .before .before .before .before .before .before .before .before .before .before in
+    let at-read-target = at-source .before .before .before .before .before .before .before .before .before in
+    at-read-target .read-target .ensures .0
+
 standing-requires : tie.Need-standing-requires
 standing-requires c κs =
     let at-poke-pad = c .before .before .before .before .before .before .before in
@@ -69,5 +75,5 @@ returns c =
 
 pub div-spec : {M : Type 1} → statement M
 div-spec =
-    tie.close (tie.spec (search needs) (search needs) (search needs) poke-pad-requires (search needs) standing-requires
+    tie.close (tie.spec (search needs) (search needs) (search needs) poke-pad-requires low-half-requires standing-requires
     divided-requires same-length (search needs) same-length-3 returns)

@@ -48,6 +48,13 @@ add-stores c =
     let at-loop = at-fit-step .before .before .before .before .before .before in
     omega (arith, grew (at-loop .loop .inv .0) (at-fit-step .fit-step .ensures _) (c .before .if1 .left))
 
+add-done : tie.Need-add-done Inv-loop μ-loop
+add-done c =
+    let at-fit-step = c .before .before .before .before .before .before .before .before .before .before .before .before in
+    let at-loop-test = at-fit-step .before .before .before .before .before in
+    let start = at-loop-test .before .before .before .before .before .before .before in
+    omega (arith, at-loop-test .loop-test .taken, start .fits .n .fits)
+
 loop-again : tie.Need-loop-again Inv-loop μ-loop
 loop-again c =
     let at-fit-step = c .before .before .before .before .before .before .before .before .before .before .before .before in
@@ -66,5 +73,5 @@ returns-2 c = λ _. ends (c .before .loop .inv .0) (search needs)
 pub fit-run-spec : {M : Type 1} → statement M
 fit-run-spec =
     tie.close (tie.spec Inv-loop μ-loop loop-holds fit-step-requires (search needs) (search needs) (search needs) (search needs)
-    returns add-stores (search needs) (search needs) loop-again (search needs) (search needs) (search needs) (search needs)
+    returns add-stores add-done (search needs) loop-again (search needs) (search needs) (search needs) (search needs)
     returns-2)

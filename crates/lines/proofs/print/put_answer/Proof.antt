@@ -1,4 +1,5 @@
 -- The pieces, one after the other.
+use Rattle.lines.specs.Digits.{showHex}
 use Rattle.lines.specs.Shown.{answerLine}
 use Rattle.lines.proofs.Printing.{more}
 use borrow.Author.Needs.{needs}
@@ -6,19 +7,13 @@ use Rattle.lines.proofs.print.put_answer.Statement.{statement}
 use Rattle.lines.proofs.print.put_answer.Tie as tie
 
 returns : tie.Need-returns
-unfolding answerLine
+unfolding answerLine showHex
 returns c =
-    let at-put-decimal3 = c .before .before .before .before .before .before .before in
-    let at-put-word3 = at-put-decimal3 .before .before .before .before in
-    let at-put-decimal2 = at-put-word3 .before .before .before .before .before in
-    let at-put-word2 = at-put-decimal2 .before .before .before .before in
-    let at-put-decimal = at-put-word2 .before .before .before .before .before in
-    let at-put-word = at-put-decimal .before .before .before .before in
-    let two = more (at-put-word .put-word .ensures) (at-put-decimal .put-decimal .ensures) in
-    let four = more (more two (at-put-word2 .put-word2 .ensures)) (at-put-decimal2 .put-decimal2 .ensures) in
-    more (more (more four (at-put-word3 .put-word3 .ensures)) (at-put-decimal3 .put-decimal3 .ensures)) (c .before .before .put-word4 .ensures)
+    let at-put-digits = c .before .before .before .before .before .before .before in
+    let at-put-word = at-put-digits .before .before .before .before in
+    let at-put-counts = at-put-word .before .before .before .before .before in
+    more (more (more (at-put-counts .put-counts .ensures) (at-put-word .put-word .ensures)) (at-put-digits .put-digits .ensures)) (c .before .before .put-word2 .ensures)
 
 pub put-answer-spec : {M : Type 1} → statement M
 put-answer-spec =
-    tie.close (tie.spec (search needs) (search needs) (search needs) (search needs) (search needs) (search needs) (search needs)
-    (search needs) (search needs) (search needs) (search needs) (search needs) returns)
+    tie.close (tie.spec (search needs) (search needs) (search needs) (search needs) (search needs) (search needs) (search needs) returns)

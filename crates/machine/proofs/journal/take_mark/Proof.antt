@@ -8,10 +8,10 @@ returns : tie.Need-returns
 returns c = λ _. mark-still _ _ _ _ (c .if1 .taken)
 
 returns-2 : tie.Need-returns-2
-returns-2 c = λ _. rw (c .refused .ensures) (mark-full _ _ _ (c .before .before .if1 .left) (c .before .if2 .taken))
+returns-2 c = λ _. rw (c .refused .ensures) (mark-full _ _ _ _ (c .before .before .if1 .left) (c .before .if2 .taken))
 
 returns-3 : tie.Need-returns-3
-returns-3 c = λ _. rw (c .laid .ensures) (mark-taken _ _ _ (c .before .before .before .if1 .left) (c .before .before .if2 .left) _
+returns-3 c = λ _. rw (c .laid .ensures) (mark-taken _ _ _ _ (c .before .before .before .if1 .left) (c .before .before .if2 .left) _
     (c .before .mark-of .ensures))
 
 pub take-mark-spec : {M : Type 1} → statement M
