@@ -1,9 +1,9 @@
--- The bench cards, by computation over a machine of full size.
+-- The bench cards and the other facts, by computation over a machine of full size.
 use mathlib.Core.Path.{_≡_, refl}
 use mathlib.Core.Bool.{true}
 use Prim.Native.Nat.{ℕ}
 use Rattle.rules.specs.Arithmetic.{parity}
-use Rattle.rules.specs.Cards.{cards, facts, bufferFacts, addressFacts, everyPasses}
+use Rattle.rules.specs.Cards.{cards, facts, bufferFacts, addressFacts, coincFacts, everyPasses}
 use Rattle.rules.proofs.Compute.{everyRule}
 
 pub cards-pass : everyPasses cards ≡ true
@@ -26,3 +26,7 @@ buffer-holds = refl
 pub addresses-hold : everyPasses addressFacts ≡ true
 unfolding everyRule
 addresses-hold = refl
+
+pub coinc-holds : everyPasses coincFacts ≡ true
+unfolding everyRule
+coinc-holds = refl

@@ -18,6 +18,7 @@ use Rattle.rules.specs.Instructions.{moveRule}
 use Rattle.rules.specs.Format.{setCursor, wrapShow, wrapSkip, show, skip, showNext, text, showTimes, repeatText, cpuOperand, showCell}
 use Rattle.rules.specs.Format.{padText, operandText, goOn, openBlock, closeBlock, repeatBlock, blockTurn, endInside, settleCursor}
 use Rattle.rules.specs.Format.{endOutside, endCode, gromBias, operandBias, cursorCode, lastRow, codeRule, code, codes, fmtRule}
+use Rattle.rules.specs.Coincidence.{difference, along, inside, tableBit, meets, inTable, lookUp, granularity, coincRule}
 use Rattle.rules.specs.Tasks.{ruleOf}
 use Rattle.rules.specs.Calls.{imageFits, partsFit, takeMark, begin, attempt, fitStep, step, beginStores, stepStores, steps, run, scan}
 use Rattle.rules.specs.Calls.{fitBack, stepBack, view}
@@ -37,6 +38,7 @@ unfolding _also_ bit
     gromSource cellSource moveSource sourceByte registerOne deliver moveByte moveBytes moveCount moveRule
     setCursor wrapShow wrapSkip show skip showNext text showTimes repeatText cpuOperand showCell padText operandText goOn openBlock closeBlock
     repeatBlock blockTurn endInside settleCursor endOutside endCode gromBias operandBias cursorCode lastRow codeRule code codes fmtRule
+    difference along inside tableBit meets inTable lookUp granularity coincRule
     ruleOf
     imageFits partsFit takeMark begin attempt fitStep step beginStores stepStores steps run scan fitBack stepBack view
     passes everyPasses

@@ -8,7 +8,7 @@ use native.Mathlib.Decide.{ℕ-discrete}
 use lib.Dec.{eqb}
 use borrow.Author.Tests.{eqb-true}
 use Rattle.rules.specs.Machine.{pick, _also_, bit}
-use Rattle.rules.specs.Answers.{Why, ended, noSuch, needsHost, offCpu, offVdp, offGrom, offStack, tooLong, noRoom, wrongLength, noRecord, offRegister, number}
+use Rattle.rules.specs.Answers.{Why, ended, noSuch, needsHost, offCpu, offVdp, offGrom, offStack, tooLong, noRoom, wrongLength, noRecord, offRegister, tooCoarse, number}
 use Rattle.rules.specs.Opcodes.{Class, stops, does, classOf, moveClass}
 use Rattle.rules.proofs.Fits.{false-true, both}
 
@@ -27,14 +27,15 @@ pub from : ℕ → ℕ → List ℕ
 from a zero = []
 from a (suc n) = a ∷ from (suc a) n
 
--- those that 01 names as instructions: >00 to >0D but those above, MOVE but >36, >37, >3E, >3F, BR and BS, those of one operand, those of two but immediate EX
+-- those that 01 names as instructions: >00 to >0D but those above, MOVE but >36, >37, >3E, >3F, BR and BS, those of one operand, those of two but immediate EX;
+-- and 02's COINC
 pub instructions : List ℕ
 instructions =
     from 0x00 3 ++ from 0x04 7 ++ from 0x0C 2
     ++ from 0x30 6 ++ from 0x38 6
     ++ from 0x40 32 ++ from 0x60 32
     ++ from 0x80 24
-    ++ from 0xA0 34 ++ from 0xC4 40
+    ++ from 0xA0 34 ++ from 0xC4 40 ++ from 0xED 1
 
 pub among : ℕ → List ℕ → Bool
 among op [] = false
@@ -79,7 +80,7 @@ opcodes-listed op h = eqb-true _ _ (below-at 256 right all-right op h)
 -- ---- the numbers of the table
 
 numbers : List ℕ
-numbers = from 1 8 ++ from 10 4
+numbers = from 1 8 ++ from 10 4 ++ 23 ∷ []
 
 in-table : (why : Why) → among (number why) numbers ≡ true
 unfolding among numbers from
@@ -95,6 +96,7 @@ in-table noRoom = refl
 in-table wrongLength = refl
 in-table noRecord = refl
 in-table offRegister = refl
+in-table tooCoarse = refl
 
 not-in-table : (n : ℕ) → among n numbers ≡ false → (why : Why) → number why ≡ n → ⊥
 not-in-table n e why h = false-true (sym e ∙ ap (λ (k : ℕ). among k numbers) (sym h) ∙ in-table why)

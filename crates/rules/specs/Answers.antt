@@ -29,6 +29,8 @@ pub data Why : Type 0 where
   noRecord : Why
   -- "VDP register above 7"
   offRegister : Why
+  -- 02, item 3: "granularity above 7"
+  tooCoarse : Why
 
 -- the answer's number
 abbrev pub number : Why → ℕ
@@ -44,6 +46,7 @@ number noRoom = 10
 number wrongLength = 11
 number noRecord = 12
 number offRegister = 13
+number tooCoarse = 23
 
 -- 02, item 2: "It is 0 for every other answer"
 abbrev pub address : Why → ℕ
@@ -59,6 +62,7 @@ address noRoom = 0
 address wrongLength = 0
 address noRecord = 0
 address offRegister = 0
+address tooCoarse = 0
 
 -- what a call says: its number, and the address that "must come out with the refusal"
 pub record Answer : Type 0 where

@@ -1,7 +1,7 @@
--- 01, "Bench cards": a case is what is given and what must come out, and one test says whether it does.
+-- 01, "Bench cards", and facts of 02: a case is what is given and what must come out, and one test says whether it does.
 use mathlib.Core.Bool.{Bool, true}
 use mathlib.Core.List.{List, [], _∷_, _++_}
-use Prim.Native.Nat.{ℕ, zero, suc, _/_, _%_}
+use Prim.Native.Nat.{ℕ, zero, suc, _+_, _*_, _/_, _%_}
 use lib.Dec.{eqb}
 use lib.ListN.{getD, replicate}
 use lib.Seq.{sets}
@@ -258,4 +258,70 @@ addressFacts =
     ∷ refuses (code 6 0x390001080000 0) [] 13 0
     -- "the first cause met in 01's order": the destination before the source
     ∷ refuses (code 5 0xA080E080E1 0) [] 4 0xE0
+    ∷ []
+
+-- ---- 02, item 3: COINC
+
+-- the guide's figure E.4, from >0100 on: limits 4 and 5, sizes 2 and 2, and five rows of six bits, 011100 and then ones
+abbrev pub figure : List Code
+figure = code 8 0x0405020273FFFFFC 0x0100 ∷ []
+
+-- a word of the pad
+abbrev pub word : ℕ → ℕ → List Holds
+word a w = pad a (w / 256) ∷ pad (a + 1) (w % 256) ∷ []
+
+-- COINC with this granularity, by a table at >0100: the destination's pair at 00, the source's at 02, and the status before and after.
+-- Five stores: >73, pc's two bytes, >7C, >73
+abbrev pub meeting : List Code → ℕ → ℕ → ℕ → ℕ → ℕ → Case
+meeting table g d s before after =
+    record {
+      image = code 6 (0xED0002000100 + g * 0x10000) 0 ∷ table;
+      given = pad status before ∷ word 0 d ++ word 2 s;
+      from = 0;
+      run = 1;
+      answer = 0;
+      steps = 1;
+      stores = 5;
+      pc = 6;
+      left = pad status after ∷ pad subPointer 0x7E ∷ word 0x80 6;
+    }
+
+abbrev pub coincFacts : List Case
+coincFacts =
+    -- "counted from the left, row by row": of the differences -2 and -2 the first bit; -2 and -1, 1, 2; 2 and 3, the last
+    meeting figure 0 0x6432 0x6230 0 0
+    ∷ meeting figure 0 0x6432 0x6231 0 0x20
+    ∷ meeting figure 0 0x6432 0x6233 0 0x20
+    ∷ meeting figure 0 0x6432 0x6234 0 0
+    ∷ meeting figure 0 0x6432 0x6635 0 0x20
+    -- "outside it is cleared": one row too low, too high; one column too far right, left
+    ∷ meeting figure 0 0x6432 0x6732 0x20 0
+    ∷ meeting figure 0 0x6432 0x6132 0x20 0
+    ∷ meeting figure 0 0x6432 0x6436 0x20 0
+    ∷ meeting figure 0 0x6432 0x642F 0x20 0
+    -- "source minus destination, as signed bytes": 0 less >FF is 1
+    ∷ meeting figure 0 0xFFFF 0x0000 0 0x20
+    -- "shifted down by the granularity": by 1, -4 is -2 and -5 is -3; by 7, -128 is -1 and 127 is 0
+    ∷ meeting figure 1 0x6432 0x6032 0 0x20
+    ∷ meeting figure 1 0x6432 0x5F32 0x20 0
+    ∷ meeting (code 5 0x0101010180 0x0100 ∷ []) 7 0x8080 0 0 0x20
+    ∷ meeting (code 5 0x0101010180 0x0100 ∷ []) 7 0x8180 0 0x20 0
+    -- "added as unsigned": -128 and >90 make 16, and nothing wraps, 127 and >FF make 382 and not 126
+    ∷ meeting (code 7 0xFF009000000080 0x0100 ∷ []) 0 0x8000 0 0 0x20
+    ∷ meeting (code 4 0xFF00FF00 0x0100 ∷ code 1 0x02 0x0113 ∷ []) 0 0 0x7F00 0x20 0
+    -- "the condition bit takes the table's bit": that bit alone
+    ∷ meeting figure 0 0x6432 0x6231 0xDF 0xFF
+    ∷ meeting figure 0 0x6432 0x6230 0xFF 0xDF
+    -- a table at the image's end: its fifth byte is read inside, and outside it is not; its fourth is always
+    ∷ refuses (code 6 0xED0002001FFC 0) [] 6 0x2000
+    ∷ card (code 6 0xED0002001FFC 0) (pad 2 1 ∷ []) 5 6 (pad status 0 ∷ [])
+    ∷ refuses (code 6 0xED0002001FFD 0) (pad 2 1 ∷ []) 6 0x2000
+    -- "23 granularity above 7, before the table address is read"; 7 is "before the table is read"
+    ∷ refuses (code 6 0xED000208FFFF 0) (pad subPointer 0x9E ∷ []) 23 0
+    ∷ refuses (code 6 0xED000207FFFF 0) (pad subPointer 0x9E ∷ []) 7 0
+    ∷ refuses (code 6 0xED000207FFFF 0) [] 6 0xFFFF
+    -- "Other opcodes >EC to >EF still answer 2."
+    ∷ refuses (code 1 0xEC 0) [] 2 0
+    ∷ refuses (code 1 0xEE 0) [] 2 0
+    ∷ refuses (code 1 0xEF 0) [] 2 0
     ∷ []

@@ -1,4 +1,4 @@
--- In the order of document 01.
+-- In the order of document 01; what 02 adds has files of its own.
 pub mod Machine
 pub mod Answers
 pub mod Journal
@@ -8,6 +8,7 @@ pub mod Opcodes
 pub mod Arithmetic
 pub mod Instructions
 pub mod Format
+pub mod Coincidence
 pub mod Tasks
 pub mod Calls
 pub mod Demands

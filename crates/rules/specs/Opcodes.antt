@@ -33,6 +33,7 @@ pub data Task : Type 0 where
   two : Two → Bool → Width → Task
   mul div : Bool → Width → Task
   ex : Width → Task
+  coinc : Task
 
 -- an opcode is stopped by 1, 2 or 3, or has a task
 pub data Class : Type 0 where
@@ -66,13 +67,15 @@ oneRows w =
 
 -- "Two, destination first, bit 1 meaning immediate source: >A0 ADD, SUB, MUL, DIV, AND, OR, XOR, ST, >C0 EX, >C4 CH, CHE, CGT, CGE, CEQ, CLOG,
 -- >DC SRA, SLL, SRL, >E8 SRC, in steps of four. Immediate EX .. answer 2."
+-- 02, item 3: COINC at "opcode >ED"; "Other opcodes >EC to >EF still answer 2."
 abbrev pub twoRows : Bool → Width → List Class
 twoRows imm w =
     does (two add imm w) ∷ does (two sub imm w) ∷ does (mul imm w) ∷ does (div imm w)
     ∷ does (two and imm w) ∷ does (two or imm w) ∷ does (two xor imm w) ∷ does (two st imm w)
     ∷ pick imm (stops noSuch) (does (ex w))
     ∷ does (two ch imm w) ∷ does (two che imm w) ∷ does (two cgt imm w) ∷ does (two cge imm w) ∷ does (two ceq imm w) ∷ does (two clog imm w)
-    ∷ does (two sra imm w) ∷ does (two sll imm w) ∷ does (two srl imm w) ∷ does (two src imm w) ∷ []
+    ∷ does (two sra imm w) ∷ does (two sll imm w) ∷ does (two srl imm w) ∷ does (two src imm w)
+    ∷ pick imm (stops noSuch) (pick w (does coinc) (stops noSuch)) ∷ []
 
 -- ">40 to >5F BR; >60 to >7F BS. From >80 on, bit 0 means word." ">F4 to >F7" are under 3; "the rest not named here or under 1 and 3 answer 2"
 unfoldable pub classOf : ℕ → Class

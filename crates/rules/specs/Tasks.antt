@@ -1,9 +1,10 @@
--- 01, "Instructions": the rule of each task.
+-- 01, "Instructions", and 02's COINC: the rule of each task.
 use Rattle.rules.specs.Rules.{Deed}
-use Rattle.rules.specs.Opcodes.{Task, rtn, rtnc, rand, back, long, call, all, fmt, test, move, branch, one, fetch, case, push, two, mul, div, ex}
+use Rattle.rules.specs.Opcodes.{Task, rtn, rtnc, rand, back, long, call, all, fmt, test, move, branch, one, fetch, case, push, two, mul, div, ex, coinc}
 use Rattle.rules.specs.Instructions.{oneRule, twoRule, testRule, mulRule, divRule, exRule, pushRule}
 use Rattle.rules.specs.Instructions.{branchRule, longRule, callRule, rtnRule, rtncRule, caseRule, fetchRule, randRule, backRule, allRule, moveRule}
 use Rattle.rules.specs.Format.{fmtRule}
+use Rattle.rules.specs.Coincidence.{coincRule}
 
 unfoldable pub ruleOf : Task → Deed
 ruleOf rtn = rtnRule
@@ -25,3 +26,4 @@ ruleOf (two op imm w) = twoRule op imm w
 ruleOf (mul imm w) = mulRule imm w
 ruleOf (div imm w) = divRule imm w
 ruleOf (ex w) = exRule w
+ruleOf coinc = coincRule
