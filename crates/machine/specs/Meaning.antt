@@ -13,7 +13,7 @@ use Rattle.rules.specs.Answers.{Answer, saying}
 use Rattle.rules.specs.Calls as calls
 use Rattle.machine.specs.declared.state.Now.{Now}
 use Rattle.machine.specs.declared.answers.Why.{Why}
-use Rattle.machine.specs.declared.answers.Why.the-variants.{Ended, NoSuch, NeedsHost, OffCpu, OffVdp, OffGrom, OffStack, TooLong, NoRoom, WrongLength, NoRecord, OffRegister}
+use Rattle.machine.specs.declared.answers.Why.the-variants.{Ended, NoSuch, NeedsHost, OffCpu, OffVdp, OffGrom, OffStack, TooLong, NoRoom, WrongLength, NoRecord, OffRegister, TooCoarse}
 use Rattle.machine.specs.declared.journal.Mark.{Mark}
 use Rattle.machine.specs.declared.memory.Memory.{Memory}
 use Rattle.machine.specs.declared.memory.Memory.the-variants.{Cpu, Vdp, Register}
@@ -33,6 +33,7 @@ whyOf NoRoom = answers.noRoom
 whyOf WrongLength = answers.wrongLength
 whyOf NoRecord = answers.noRecord
 whyOf OffRegister = answers.offRegister
+whyOf TooCoarse = answers.tooCoarse
 
 -- ---- the state, with the memories beside it, as a machine of the rules
 

@@ -29,6 +29,8 @@ pub enum Why {
     NoRecord,
     // "VDP register above 7"
     OffRegister,
+    // 02, item 3: "granularity above 7"
+    TooCoarse,
 }
 
 pub fn number(why: Why) -> u8
@@ -47,6 +49,7 @@ pub fn number(why: Why) -> u8
         Why::WrongLength => 11,
         Why::NoRecord => 12,
         Why::OffRegister => 13,
+        Why::TooCoarse => 23,
     }
 }
 
@@ -67,5 +70,6 @@ pub fn address(why: Why) -> u16
         Why::WrongLength => 0,
         Why::NoRecord => 0,
         Why::OffRegister => 0,
+        Why::TooCoarse => 0,
     }
 }

@@ -1,6 +1,7 @@
 // Bytes and words: pure functions, each by its rule.
 pub mod addresses;
 pub mod bits;
+pub mod coincidence;
 pub mod cursor;
 pub mod products;
 pub mod random;

@@ -280,6 +280,7 @@ meeting table g d s before after =
       from = 0;
       run = 1;
       answer = 0;
+      address = 0;
       steps = 1;
       stores = 5;
       pc = 6;
