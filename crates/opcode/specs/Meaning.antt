@@ -4,7 +4,7 @@ use Rattle.machine.specs.Meaning.{whyOf}
 use Rattle.flow.specs.Meaning.{testOf}
 use Rattle.arith.specs.Meaning.{oneOf, twoOf}
 use Rattle.opcode.specs.declared.class.Task.{Task}
-use Rattle.opcode.specs.declared.class.Task.the-variants.{Rtn, Rtnc, Rand, Back, Long, Call, All, Fmt, Test, Move, Branch, One, Fetch, Case, Push, Two, Mul, Div, Ex}
+use Rattle.opcode.specs.declared.class.Task.the-variants.{Rtn, Rtnc, Rand, Back, Long, Call, All, Fmt, Test, Move, Branch, One, Fetch, Case, Push, Two, Mul, Div, Ex, Coinc}
 use Rattle.opcode.specs.declared.class.Class.{Class}
 use Rattle.opcode.specs.declared.class.Class.the-variants.{Stops, Does}
 
@@ -28,6 +28,7 @@ taskOf (Two op imm w) = opcodes.two (twoOf op) imm w
 taskOf (Mul imm w) = opcodes.mul imm w
 taskOf (Div imm w) = opcodes.div imm w
 taskOf (Ex w) = opcodes.ex w
+taskOf Coinc = opcodes.coinc
 
 abbrev pub meant : Class → opcodes.Class
 meant (Stops why) = opcodes.stops (whyOf why)

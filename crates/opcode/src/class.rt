@@ -8,7 +8,7 @@ ghost use Prim.Native.Nat.{_≤_};
 ghost use Rattle.rules.specs.Machine.{pick};
 ghost use Rattle.rules.specs.Answers.{noSuch};
 ghost use Rattle.rules.specs.Opcodes;
-ghost use Rattle.rules.specs.Opcodes.{row, stops, does, ex, lowRows, oneRows, twoRows, moveClass, classOf};
+ghost use Rattle.rules.specs.Opcodes.{row, stops, does, ex, coinc, lowRows, oneRows, twoRows, moveClass, classOf};
 ghost use Rattle.opcode.specs.Meaning.{meant};
 
 // What an opcode does. Flags say, in this order: the source is immediate, the operands are words.
@@ -33,6 +33,7 @@ pub enum Task {
     Mul(bool, bool),
     Div(bool, bool),
     Ex(bool),
+    Coinc,
 }
 
 pub enum Class {
@@ -109,6 +110,19 @@ fn ex_class(imm: bool, wide: bool) -> Class
     Class::Does(Task::Ex(wide))
 }
 
+// COINC, which has no immediate source and no bytes.
+fn coinc_class(imm: bool, wide: bool) -> Class
+    ensures { λ r. ⌜ meant r ≡ pick imm (stops noSuch) (pick wide (does coinc) (stops noSuch)) ⌝ }
+{
+    if imm {
+        return Class::Stops(Why::NoSuch);
+    }
+    if wide {
+        return Class::Does(Task::Coinc);
+    }
+    Class::Stops(Why::NoSuch)
+}
+
 // >A0 to >F3, by fours.
 fn two_class(row: u8, imm: bool, wide: bool) -> Class
     ensures { λ r. ⌜ meant r ≡ Opcodes.row row (twoRows imm wide) ⌝ }
@@ -133,6 +147,7 @@ fn two_class(row: u8, imm: bool, wide: bool) -> Class
         16 => Class::Does(Task::Two(Two::Sll, imm, wide)),
         17 => Class::Does(Task::Two(Two::Srl, imm, wide)),
         18 => Class::Does(Task::Two(Two::Src, imm, wide)),
+        19 => coinc_class(imm, wide),
         _ => Class::Stops(Why::NoSuch),
     }
 }

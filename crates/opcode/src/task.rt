@@ -46,5 +46,6 @@ pub fn perform(
         Task::Mul(imm, wide) => arith::products::mul(image, pad, vram, journal, m, imm, wide),
         Task::Div(imm, wide) => arith::products::div(image, pad, vram, journal, m, imm, wide),
         Task::Ex(wide) => arith::operations::ex(image, pad, vram, journal, m, wide),
+        Task::Coinc => coinc::whole::coinc(image, pad, vram, journal, m),
     }
 }

@@ -63,9 +63,12 @@ returns-19 : tie.Need-returns-19
 returns-19 c = rw (c .match .keys19)
 
 returns-20 : tie.Need-returns-20
-returns-20 c = last-arm _ (twoRows (c .before .args .imm) (c .before .args .wide)) (c .match .rest)
+returns-20 c = rw (c .before .match .keys20) (c .coinc-class .ensures)
+
+returns-21 : tie.Need-returns-21
+returns-21 c = last-arm _ (twoRows (c .before .args .imm) (c .before .args .wide)) (c .match .rest)
 
 pub two-class-spec : {M : Type 1} → statement M
 two-class-spec =
-    tie.close (tie.spec (search needs) returns returns-2 returns-3 returns-4 returns-5 returns-6 returns-7 returns-8 returns-9
-    returns-10 returns-11 returns-12 returns-13 returns-14 returns-15 returns-16 returns-17 returns-18 returns-19 returns-20)
+    tie.close (tie.spec (search needs) (search needs) returns returns-2 returns-3 returns-4 returns-5 returns-6 returns-7 returns-8 returns-9
+    returns-10 returns-11 returns-12 returns-13 returns-14 returns-15 returns-16 returns-17 returns-18 returns-19 returns-20 returns-21)

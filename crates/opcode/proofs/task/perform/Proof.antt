@@ -4,6 +4,12 @@ use borrow.Author.Needs.{needs}
 use Rattle.opcode.proofs.task.perform.Statement.{statement}
 use Rattle.opcode.proofs.task.perform.Tie as tie
 
+enum-told-9 : tie.Need-enum-told-9
+enum-told-9 c = search needs
+
+coinc-requires : tie.Need-coinc-requires
+coinc-requires c κs = search needs
+
 returns : tie.Need-returns
 unfolding ruleOf
 returns c =
@@ -259,18 +265,34 @@ returns-19 c =
     let at-task11 = at-ex .before .before .before .before .before in
     λ _. rw (at-task11 .task11 .given .1) (at-ex .ex .ensures _)
 
+same-length-51 : tie.Need-same-length-51
+same-length-51 c = search needs
+
+same-length-52 : tie.Need-same-length-52
+same-length-52 c = search needs
+
+same-length-53 : tie.Need-same-length-53
+same-length-53 c = search needs
+
+returns-20 : tie.Need-returns-20
+unfolding ruleOf
+returns-20 c =
+    let at-enum-told9 = c .before .before .before .before .before .before .before .before in
+    λ _. rw (at-enum-told9 .enum-told9 .given .1) (c .before .before .before .before .coinc .ensures _)
+
 pub perform-spec : {M : Type 1} → statement M
 perform-spec =
     tie.close (tie.spec (search needs) (search needs) (search needs) (search needs) (search needs) (search needs) (search needs)
     (search needs) (search needs) (search needs) (search needs) (search needs) (search needs) (search needs) (search needs)
     (search needs) (search needs) (search needs) (search needs) (search needs) (search needs) (search needs) (search needs)
     (search needs) (search needs) (search needs) (search needs) (search needs) (search needs) (search needs) (search needs)
-    (search needs) (search needs) (search needs) (search needs) (search needs) (search needs) (search needs) (search needs)
-    (search needs) returns (search needs) (search needs) returns-2 (search needs) (search needs) returns-3 same-length-7
-    same-length-8 returns-4 same-length-9 same-length-10 returns-5 same-length-11 same-length-12 returns-6 same-length-13
-    same-length-14 same-length-15 returns-7 same-length-16 same-length-17 same-length-18 returns-8 same-length-19 same-length-20
-    returns-9 same-length-21 same-length-22 same-length-23 same-length-24 returns-10 same-length-25 same-length-26 returns-11
-    same-length-27 same-length-28 same-length-29 returns-12 same-length-30 same-length-31 same-length-32 returns-13 same-length-33
-    same-length-34 same-length-35 returns-14 same-length-36 same-length-37 same-length-38 returns-15 same-length-39 same-length-40
-    same-length-41 returns-16 same-length-42 same-length-43 same-length-44 returns-17 same-length-45 same-length-46 same-length-47
-    returns-18 same-length-48 same-length-49 same-length-50 returns-19)
+    (search needs) (search needs) (search needs) (search needs) (search needs) (search needs) (search needs) enum-told-9
+    coinc-requires (search needs) (search needs) returns (search needs) (search needs) returns-2 (search needs) (search needs)
+    returns-3 same-length-7 same-length-8 returns-4 same-length-9 same-length-10 returns-5 same-length-11 same-length-12
+    returns-6 same-length-13 same-length-14 same-length-15 returns-7 same-length-16 same-length-17 same-length-18 returns-8
+    same-length-19 same-length-20 returns-9 same-length-21 same-length-22 same-length-23 same-length-24 returns-10
+    same-length-25 same-length-26 returns-11 same-length-27 same-length-28 same-length-29 returns-12 same-length-30
+    same-length-31 same-length-32 returns-13 same-length-33 same-length-34 same-length-35 returns-14 same-length-36
+    same-length-37 same-length-38 returns-15 same-length-39 same-length-40 same-length-41 returns-16 same-length-42
+    same-length-43 same-length-44 returns-17 same-length-45 same-length-46 same-length-47 returns-18 same-length-48
+    same-length-49 same-length-50 returns-19 same-length-51 same-length-52 same-length-53 returns-20)
