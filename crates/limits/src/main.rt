@@ -1,4 +1,4 @@
-// What the program can't show: an image of one group, parts of a wrong length, a journal with no room, and no step to take back.
+// What the program can't show: images of one group and of eight, parts of a wrong length, a journal with no room, and no step to take back.
 use bench::at::At;
 use bench::runs::Report;
 ghost use Prim.Native.Nat.{_≤_};
@@ -8,6 +8,9 @@ ghost use lib.ListN.{length};
 const MOVE_8000: [u8; 7] = [0x31, 0x80, 0x00, 0xA0, 0x00, 0x00, 0x00];
 
 const MOVE_8001: [u8; 7] = [0x31, 0x80, 0x01, 0xA0, 0x00, 0x00, 0x00];
+
+// COINC by a table at >FFFE, which goes on at >0000.
+const COINC_FFFE: [u8; 6] = [0xED, 0x00, 0x02, 0x00, 0xFF, 0xFE];
 
 // A heading, and the first bytes of what a run printed.
 fn write_run(what: &[u8], out: &[u8; 216507], count: usize)
@@ -66,6 +69,7 @@ fn main() {
     let mut journal = [0u32; 16384];
     let mut word = [0u32; 1];
     let short = [0u8; 8191];
+    let mut eight = [0u8; 65536];
     bytes::copy(&MOVE_8000, &mut image);
     try_step(
         b"one group, >8000 bytes: beyond the image\n",
@@ -77,6 +81,16 @@ fn main() {
     try_step(
         b"one group, >8001 bytes: one is moved\n",
         &image,
+        &mut journal,
+        0,
+    );
+    // The row's limit is >FF, and its size the opcode: the bit is number >ED, in the byte at >001F.
+    bytes::copy(&COINC_FFFE, &mut eight);
+    eight[0xFFFE] = 0xFF;
+    eight[0x1F] = 0x04;
+    try_step(
+        b"eight groups, a table that goes on at >0000\n",
+        &eight,
         &mut journal,
         0,
     );
