@@ -470,6 +470,41 @@ static void put_two_operands(struct writer *w)
         put_operand(w, width);
 }
 
+/* A limit and a size of a COINC's table: all differences inside, or any two. */
+static void put_side(struct writer *w, uint32_t granularity, uint32_t table, uint32_t side)
+{
+    struct dice *d = w->dice;
+    bool all = percent(d, 50);
+
+    put_at(w, table + side, all ? 0xFF >> granularity : edge_byte(d));
+    put_at(w, table + 2 + side, all ? 0x80 >> granularity : edge_byte(d));
+}
+
+/* COINC, by a table of its own: anywhere in the image, about its end, or past it.
+   The background's tables are whatever stands there. */
+static void put_coincidence(struct writer *w)
+{
+    static const uint8_t coarse[] = {8, 9, 16, 0x80, 0xFF};
+    struct dice *d = w->dice;
+    uint32_t granularity = percent(d, 60) ? below(d, 3) : below(d, 8);
+    uint32_t length = (uint32_t)w->image_len;
+    uint32_t table = percent(d, 75)   ? below(d, length)
+                     : percent(d, 80) ? length - between(d, 1, 24)
+                                      : edge_word(d);
+
+    put(w, 0xED);
+    put_operand(w, 2);
+    put_operand(w, 2);
+    put(w, percent(d, 5) ? PICK(d, coarse) : granularity);
+    put_word(w, table);
+    if (!w->keep_patches)
+        return;
+    put_side(w, granularity, table, 0);
+    put_side(w, granularity, table, 1);
+    for (uint32_t i = 0; i < 16; i++)
+        put_at(w, table + 4 + i, below(d, 256));
+}
+
 static void put_one_operand(struct writer *w)
 {
     uint32_t op = between(w->dice, 0x80, 0x97);
@@ -508,7 +543,7 @@ static void put_undone(struct writer *w)
 {
     static const uint8_t ops[] = {
         0x0B, 0x0B, 0x03, 0x0F, 0xF4, 0xF5, 0xF6, 0xF7, 0x0E, 0x10, 0x13, 0x1F, 0x20, 0x2F, 0x36,
-        0x37, 0x3E, 0x3F, 0x98, 0x9F, 0xC2, 0xC3, 0xEC, 0xEF, 0xF0, 0xF3, 0xF8, 0xFC, 0xFF
+        0x37, 0x3E, 0x3F, 0x98, 0x9F, 0xC2, 0xC3, 0xEC, 0xEE, 0xEF, 0xF0, 0xF3, 0xF8, 0xFC, 0xFF
     };
     put(w, PICK(w->dice, ops));
 }
@@ -520,6 +555,8 @@ static void put_instruction(struct writer *w, uint32_t undone_percent)
 
     if (percent(d, undone_percent))
         put_undone(w);
+    else if (r < 5)
+        put_coincidence(w);
     else if (r < 40)
         put_two_operands(w);
     else if (r < 60)

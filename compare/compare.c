@@ -397,7 +397,7 @@ static bool opcode_is_done(int op)
         return op != 0x03 && op != 0x0B;
     if (op >= 0x30 && op <= 0x3F)
         return (op & 6) != 6;
-    return (op >= 0x40 && op <= 0x97) || (op >= 0xA0 && op <= 0xEB && (op & 0xFE) != 0xC2);
+    return (op >= 0x40 && op <= 0x97) || (op >= 0xA0 && op <= 0xEB && (op & 0xFE) != 0xC2) || op == 0xED;
 }
 
 static void print_counts(const struct counts *n)

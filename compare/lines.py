@@ -14,6 +14,7 @@ import sys
 
 PARTS = {"grom": (4, 0x8000), "pad": (2, 0x100), "vdp": (4, 0x4000), "reg": (2, 8)}
 EDGES = [0, 1, 2, 8, 15, 16, 0x7D, 0x7E, 0x7F, 0x80, 0x81, 0xFE, 0xFF]
+TABLE = 0x7000  # of COINC
 
 
 # ---- code for the image ----
@@ -91,8 +92,15 @@ def move(r):
     return code + word(r.randrange(0x8100)) + ([0x10 + 2 * r.randrange(8)] if op & 2 else [])
 
 
+def coincidence(r):
+    table = r.choice([TABLE, TABLE, TABLE, 0x7FFC, 0x8000, r.randrange(0x8000)])
+    return [0xED] + operand(r) + operand(r) + [r.choice([0, 0, 1, 2, 5, 7, 8])] + word(table)
+
+
 def instruction(r, at):
     kind = r.random()
+    if kind < 0.03:
+        return coincidence(r)
     if kind < 0.35:
         op = r.randrange(0xA0, 0xEC)
         code = [op] + operand(r)
@@ -131,9 +139,11 @@ def code_line(r, at):
 
 
 def plan_lines(r):
-    """The pad cells that the code's operands rely on."""
+    """The pad cells that the code's operands rely on, and a table for COINC."""
     words = lambda values: [b for v in values for b in word(v)]
     return [
+        line("grom", TABLE, r.choice([[255, 255, 128, 128], [byte(r) for _ in range(4)]])
+             + [r.randrange(256) for _ in range(200)]),
         line("pad", 0x00, [byte(r) for _ in range(16)]),
         line("pad", 0x10, words(r.choice([0, 1, 2, 0xFFFF]) for _ in range(8))),
         line("pad", 0x20, words(vdp_cell(r) for _ in range(8))),
@@ -160,7 +170,7 @@ def run_line(r):
 
 def valid_lines(r):
     at = r.choice([0, 0, r.randrange(0x8000), 0x1FFE, 0x7FFF, 0x7FF8])
-    lines = [code_line(r, at), "pc\t%04X" % at] + r.sample(plan_lines(r), r.randrange(8))
+    lines = [code_line(r, at), "pc\t%04X" % at] + r.sample(plan_lines(r), r.randrange(9))
     lines += [data_line(r) for _ in range(r.randrange(4))]
     r.shuffle(lines)
     for _ in range(r.choice([0, 1, 1, 1, 2, 3, 5])):

@@ -43,7 +43,8 @@ enum {
     JOURNAL_FULL = 10,
     BAD_LENGTH = 11,
     NO_RECORD = 12,
-    BAD_REGISTER = 13
+    BAD_REGISTER = 13,
+    TOO_COARSE = 23 /* 02, item 3 */
 };
 
 /* "Status": the five flags, and the parity of 02, item 6 */
@@ -832,6 +833,65 @@ static bool format(struct bench *b)
     return refuse(b, LONG_FORMAT); /* "a 16,385th format code in one FMT, before it is read" */
 }
 
+/* ---- COINC: 02, item 3 ---- */
+
+/* "(source minus destination, as signed bytes) are shifted down by the granularity",
+   rounding down; "the table's two size bytes are added as unsigned" */
+static inline int32_t sum_along(uint32_t source, uint32_t destination, uint32_t granularity, uint32_t size)
+{
+    int32_t difference = (int8_t)(uint8_t)(source - destination);
+    int32_t unit = 1 << granularity;
+    int32_t below = difference < 0 ? unit - 1 : 0;
+    return (difference - below) / unit + (int32_t)size;
+}
+
+/* "each sum must lie from 0 to its limit" */
+static inline bool within(int32_t sum, uint32_t limit)
+{
+    return sum >= 0 && (uint32_t)sum <= limit;
+}
+
+/* The word that an operand names, read in 01's way. */
+static inline uint32_t word_operand(struct bench *b)
+{
+    uint32_t place = decode(b, 2);
+    return place == REFUSED ? REFUSED : read_value(b, place, 2);
+}
+
+/* "two word operands as row and column pairs, then a granularity byte and a table address" */
+static bool coincide(struct bench *b)
+{
+    uint32_t head[4]; /* limits of rows and columns, their sizes */
+    uint32_t destination = word_operand(b);
+    if (destination == REFUSED)
+        return false;
+    uint32_t source = word_operand(b);
+    if (source == REFUSED)
+        return false;
+    uint32_t granularity = next_byte(b);
+    if (granularity > 7)
+        return refuse(b, TOO_COARSE); /* "before the table address is read" */
+    uint32_t table = next_word(b);
+    if (!push_pc(b)) /* "pc is pushed before the table is read" */
+        return false;
+    for (uint32_t i = 0; i < 4; i++) {
+        head[i] = read_byte(b, GROM, table + i); /* "Table addresses count in 16 bits." */
+        if (head[i] == REFUSED)
+            return false;
+    }
+    int32_t row = sum_along(source >> 8, destination >> 8, granularity, head[2]);
+    int32_t column = sum_along(source & 0xFF, destination & 0xFF, granularity, head[3]);
+    bool set = false; /* "outside it is cleared" */
+    if (within(row, head[0]) && within(column, head[1])) {
+        uint32_t bit = (uint32_t)row * (head[1] + 1) + (uint32_t)column; /* "row by row" */
+        uint32_t byte = read_byte(b, GROM, table + 4 + bit / 8);
+        if (byte == REFUSED)
+            return false;
+        set = (byte << bit % 8 & 0x80) != 0; /* "counted from the left" */
+    }
+    return store_condition(b, set) && pop_pc(b); /* "popped after that store" */
+}
+
 /* ---- one step ---- */
 
 /* >80 to >97: one operand; "From >80 on, bit 0 means word." */
@@ -939,6 +999,8 @@ static inline bool two_operands(struct bench *b, uint32_t op)
 
 static inline bool execute(struct bench *b, uint32_t op)
 {
+    if (op >= 0xEC)
+        return coincide(b);
     if (op >= 0xA0)
         return two_operands(b, op);
     if (op >= 0x80)
@@ -983,7 +1045,7 @@ static inline uint8_t opcode_answer(uint32_t op)
     if (op >= 0xF4 && op <= 0xF7)
         return NEEDS_HOST; /* "needs the host: >03, >0F, >F4 to >F7" */
     if (op >= 0xEC)
-        return NO_INSTRUCTION;
+        return op == 0xED ? DONE : NO_INSTRUCTION; /* "Other opcodes >EC to >EF still answer 2." */
     if (op >= 0xA0)
         return (op & 0xFE) == 0xC2 ? NO_INSTRUCTION : DONE; /* "Immediate EX" */
     if (op >= 0x98)
