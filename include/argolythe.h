@@ -22,7 +22,7 @@
  *
  * A call needs less than 2 KiB of stack, whatever it is lent and however many steps it makes. The
  * compiled functions do not call themselves, none has a frame of variable size, and the deepest
- * chain of calls, argolythe_run's, takes at most 1,400 bytes: every push and every subtraction from
+ * chain of calls, argolythe_run's, takes at most 1,480 bytes: every push and every subtraction from
  * the stack pointer in its functions, and the return addresses. The 128 bytes below the stack
  * pointer that x86-64 leaves to a function come on top. This is read off the archive, not proved.
  *
@@ -64,7 +64,8 @@ enum argolythe_answer {
     ARGOLYTHE_NO_ROOM = 10,        /* no journal word left */
     ARGOLYTHE_WRONG_LENGTH = 11,   /* a lent part has a wrong length, or used exceeds the journal */
     ARGOLYTHE_NO_RECORD = 12,      /* step_back finds no sound record */
-    ARGOLYTHE_OFF_REGISTERS = 13   /* VDP register above 7 */
+    ARGOLYTHE_OFF_REGISTERS = 13,  /* VDP register above 7 */
+    ARGOLYTHE_TOO_COARSE = 23      /* COINC's granularity above 7 */
 };
 
 /* ---- what comes out: five numbers, whatever the answer */
