@@ -4,12 +4,15 @@ pub mod hosts;
 
 use bench::at::At;
 use bench::runs::Report;
+use bench::viewer::Memory;
 use bench::walk::Reply;
 ghost use mathlib.Core.Path.{_≡_};
 ghost use Prim.Native.Nat.{_-_, _<_};
 ghost use lib.Dec.{eqb};
 ghost use Rattle.rules.specs.Machine.{pick};
+ghost use Rattle.rules.specs.Calls;
 ghost use Rattle.machine.specs.Meaning.{_&_, Image, Journal, Pad, Regs, Vram};
+ghost use Rattle.bench.specs.Meaning.{memoryOf};
 ghost use Rattle.witness.specs.Demanded;
 ghost use Rattle.witness.specs.Demanded.{Meets, RepliesHome, StandsHome, TakenBack, KeptSteps, forgetting};
 
@@ -159,4 +162,11 @@ pub fn make_calls(
         steps: kept,
         at: here,
     }
+}
+
+// What the viewer shows are the bytes that the rules show.
+pub fn view<'a>(pad: &'a [u8], vram: &'a [u8], which: Memory, at: usize, len: usize) -> &'a [u8]
+    ensures { λ r. ⌜ now r ≡ Calls.view (memoryOf which) (now (pad .entry)) (now (vram .entry)) at len ⌝ }
+{
+    bench::viewer::view(pad, vram, which, at, len)
 }
