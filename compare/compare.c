@@ -412,7 +412,7 @@ static void print_counts(const struct counts *n)
            n->calls_of_kind[CALL_STEP] ? 100.0 * (double)n->step_answers[0] / (double)n->calls_of_kind[CALL_STEP] : 0);
     printf("answers:");
     for (int i = 0; i < 256; i++)
-        if (i <= 13 || n->answers[i])
+        if ((i <= 13 && i != 9) || n->answers[i])
             printf(" %d:%" PRIu64, i, n->answers[i]);
     printf("\naccepted steps by opcode:");
     for (int i = 0; i < 256; i++) {
