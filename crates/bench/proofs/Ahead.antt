@@ -36,15 +36,16 @@ pub record Underway (n : ℕ) (s₀ : State) (k c : ℕ) (s : State) : Type 0 wh
   pub made : k ≤ n
   pub stored : c ≤ s .mem .used
 
-pub sets-out : {n : ℕ} {i p v g j : List ℕ} {at : At} → fits (stateAt i p v g j at .mem) ≡ true → at .pc < 65536 → AreBytes p → AreBytes v → AreBytes g
+pub sets-out : {n : ℕ} {i p v g j : List ℕ} {at : At} → fits (stateAt i p v g j at .mem) ≡ true → at .pc < 65536 → at .writable < 256 → AreBytes i → AreBytes p → AreBytes v
+    → AreBytes g
     → Underway n (stateAt i p v g j at) 0 0 (stateAt i p v g j at)
-sets-out {n} {i} {p} {v} {g} {j} {at} f l a b c =
+sets-out {n} {i} {p} {v} {g} {j} {at} f l w d a b c =
     let r : Report = steps n (stateAt i p v g j at) in
     let all : n - 0 ≡ n = omega arith in
     record {
       whole = rw all (recount (r .answer) (r .end) (omega arith) (omega arith));
       fit = f;
-      good = record { address = l; bytes = bytes-of (mem i p v g j (at .used)) a b c };
+      good = record { address = l; bytes = bytes-of (mem i (at .writable) p v g j (at .used)) w d a b c };
       made = omega arith;
       stored = omega arith;
     }

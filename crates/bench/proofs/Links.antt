@@ -8,10 +8,10 @@ use lib.Dec.{eqb, leb}
 use lib.ListN.{length, take, drop}
 use denote.Ref.{RefT, now}
 use borrow.Author.Tests.{ne-eqb, eq-eqb, leb-true, leb-false, eqb-true}
-use Rattle.rules.specs.Machine.{pick, _also_, cpu, vdp, register, size, reach, mem, State}
+use Rattle.rules.specs.Machine.{pick, _also_, cpu, vdp, register, size, reach, areaOf, mem, area, State}
 use Rattle.rules.specs.Answers.{answerFor, wrongLength, noRecord}
 use Rattle.rules.specs.Journal.{undo}
-use Rattle.rules.specs.Calls.{partsFit, memFits, Find, scan, backTo, fitBack, stepBack, Memory, kindOf, viewed, view}
+use Rattle.rules.specs.Calls.{partsFit, fits, Find, scan, backTo, fitBack, stepBack, Memory, kindOf, viewed, view}
 use Rattle.rules.proofs.Fits.{both}
 use Rattle.machine.specs.Meaning.{foundAt}
 use Rattle.bench.specs.declared.at.At.{At}
@@ -20,22 +20,23 @@ use Rattle.bench.specs.Meaning.{stateAt, Fit, Returned, returned, outcom
 
 -- ---- a step back
 
-pub back-lost : {i p v g j : List ℕ} {at : At} {n : ℕ} (pc : ℕ) → foundAt n pc ≡ scan (at .used) j → n ≡ 0
+pub back-lost : {i p v g j : List ℕ} {at : At} {n : ℕ} (pc : ℕ) → foundAt n pc ≡ scan (areaOf (length i) (at .writable)) (at .used) j → n ≡ 0
     → Tells told undoing (stateAt i p v g j at) (returned i p v g j (refusal (answerFor noRecord) at))
 unfolding fitBack replies foundAt
 back-lost {i = i} {p = p} {v = v} {g = g} {j = j} {at = at} pc e h = record { is = ap (λ (f : Find). outcome (backTo f (stateAt i p v g j at)) 0) (rw h at e) }
 
-pub back-found : {i p v g j : List ℕ} {s : State} {n pc u : ℕ} → foundAt n pc ≡ scan (s .mem .used) (s .mem .journal) → (n ≡ 0 → ⊥) → mem i p v g j u ≡ undo n (s .mem)
-    → Tells told undoing s (returned i p v g j (record { answer = 0; address = 0; stores = 0; at = record { pc = pc; used = u } }))
+pub back-found : {w : ℕ} {i p v g j : List ℕ} {s : State} {n pc u : ℕ} → foundAt n pc ≡ scan (area (s .mem)) (s .mem .used) (s .mem .journal) → (n ≡ 0 → ⊥)
+    → mem i w p v g j u ≡ undo n (s .mem)
+    → Tells told undoing s (returned i p v g j (record { answer = 0; address = 0; stores = 0; at = record { pc = pc; used = u; writable = w } }))
 unfolding fitBack replies foundAt
 back-found {s = s} {n = n} e h k = record { is = rw k (ap (λ (f : Find). outcome (backTo f s) 0) (rw (ne-eqb n 0 h) at e)) }
 
-pub back-unfit : {i p v g j : List ℕ} {at : At} {t : Bool} → t ≡ memFits (mem i p v g j (at .used)) → t ≡ false
+pub back-unfit : {i p v g j : List ℕ} {at : At} {t : Bool} → t ≡ fits (stateAt i p v g j at .mem) → t ≡ false
     → Tells told backing (stateAt i p v g j at) (returned i p v g j (refusal (answerFor wrongLength) at))
 unfolding stepBack replies
 back-unfit e h = record { is = rw (sym e ∙ h) }
 
-pub back-fits : {s : State} {x : Returned walk.Reply} {t : Bool} → t ≡ memFits (s .mem) → t ≡ true → Tells told undoing s x → Tells told backing s x
+pub back-fits : {s : State} {x : Returned walk.Reply} {t : Bool} → t ≡ fits (s .mem) → t ≡ true → Tells told undoing s x → Tells told backing s x
 unfolding stepBack
 back-fits e h k = record { is = rw (sym e ∙ h) (k .is) }
 

@@ -4,9 +4,9 @@ use mathlib.Core.Bool.{Bool, true, false}
 use mathlib.Core.List.{List}
 use Prim.Native.Nat.{ℕ}
 use native.Mathlib.Omega.{arith}
-use Rattle.rules.specs.Machine.{pick, State}
+use Rattle.rules.specs.Machine.{pick, area, State}
 use Rattle.rules.specs.Answers.{saying, answerFor, wrongLength}
-use Rattle.rules.specs.Calls.{memFits, fits, Reply, done, refused, made, Report, report, run, Find, found, lost, scan, backTo, fitBack, stepBack, Memory, view}
+use Rattle.rules.specs.Calls.{fits, Reply, done, refused, made, Report, report, run, Find, found, lost, scan, backTo, fitBack, stepBack, Memory, view}
 use Rattle.rules.specs.Demands.{BackCause, wrong-parts, no-record, Demand1, Demand2, Ends}
 use Rattle.rules.proofs.Named.{Answered, named-run}
 use Rattle.rules.proofs.Struck.{listed-not-9, answered-not-9, back-not-9}
@@ -32,7 +32,7 @@ module _ {s : State} where
     where
       read : Report → Returned runs.Report
       read r =
-          let at : At = record { pc = r .end .pc; used = r .end .mem .used } in
+          let at : At = record { pc = r .end .pc; used = r .end .mem .used; writable = r .end .mem .groups } in
           returnedOf (r .end .mem) (record { answer = r .answer .number; address = r .answer .address; steps = r .steps; stores = r .stores; at = at })
 
 pub view-determined : (w : Memory) (p v : List ℕ) (at len : ℕ) {x y : List ℕ} → x ≡ view w p v at len → y ≡ view w p v at len → x ≡ y
@@ -41,7 +41,7 @@ view-determined w p v at len e k = e ∙ sym k
 -- ---- a step
 
 module _ {s : State} {x : Returned walk.Reply} (e : Tells told stepping s x) where
-  -- Demand 1. A refused step: its answer is one of the listed refusals; pc, pad, VDP RAM, registers and used are as before it; the journal words that it
+  -- Demand 1. A refused step: its answer is one of the listed refusals; pc, image, pad, VDP RAM, registers and used are as before it; the journal words that it
   -- had begun to use are 0, and all others as before. It reports no stores.
   pub demand1 : (x .result .answer ≡ 0 → ⊥) → Demand1 s (saying (x .result .answer) (x .result .address)) (leaves x) × (x .result .stores ≡ 0)
   demand1 h = (replies-of.demand1 s (saying (x .result .answer) (x .result .address)) (leaves x) (refuses e h), counts e ∙ ap (made s) (refuses e h))
@@ -75,9 +75,9 @@ StaysAs s (refused a t) = BackCause s a × (t ≡ s)
 
 stays : (s : State) → StaysAs s (stepBack s)
 unfolding stepBack fitBack
-stays s = go (memFits (s .mem)) refl (scan (s .mem .used) (s .mem .journal)) refl
+stays s = go (fits (s .mem)) refl (scan (area (s .mem)) (s .mem .used) (s .mem .journal)) refl
   where
-    go : (c : Bool) → memFits (s .mem) ≡ c → (f : Find) → scan (s .mem .used) (s .mem .journal) ≡ f
+    go : (c : Bool) → fits (s .mem) ≡ c → (f : Find) → scan (area (s .mem)) (s .mem .used) (s .mem .journal) ≡ f
         → StaysAs s (pick c (backTo f s) (refused (answerFor wrongLength) s))
     go true e (found n pc) k = tt
     go true e lost k = (no-record e k, refl)

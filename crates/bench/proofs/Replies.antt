@@ -43,7 +43,7 @@ module _ {f : State → Outcome} {s : State} {x : Returned walk.Reply} (e : Tell
 
 -- what is returned can be read off what it tells
 made-of : ℕ → State → ℕ → ℕ → Returned walk.Reply
-made-of a s d n = returnedOf (s .mem) (record { answer = a; address = d; stores = n; at = record { pc = s .pc; used = s .mem .used } })
+made-of a s d n = returnedOf (s .mem) (record { answer = a; address = d; stores = n; at = record { pc = s .pc; used = s .mem .used; writable = s .mem .groups } })
 
 read : Outcome → Returned walk.Reply
 read o = made-of (answer (o .reply) .number) (left (o .reply)) (o .address) (o .stores)

@@ -182,7 +182,7 @@ module _ {s₀ : State} (g : Good s₀) (z : s₀ .mem .used ≡ 0) where
   good-there : {s : State} {n : ℕ} → Demand3 s₀ n s → Good s
   good-there {s} {n} d =
       let f : Good (forward n s₀) = history.good-forward s₀ g n (d .accepted) in
-      record { address = rw (d .address) (f .address); bytes = λ k i. rw (d .memories k) (f .bytes k i) }
+      record { address = rw (d .address) (f .address); bytes = (λ k i. rw (d .memories k) (f .bytes .0 k i), rw (d .groups) (g .bytes .1)) }
 
   back-words : {c : Count} {s : State} {x : Returned walk.Reply} → Words c s → Demand3 s₀ (c .steps) s → Tells told backing s x
       → Demand3 s₀ (counts (backed (x .result)) c .steps) (leaves x) → Words (counts (backed (x .result)) c) (leaves x)

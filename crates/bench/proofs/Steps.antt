@@ -10,7 +10,7 @@ use lib.ListN.{length, getD, length-set}
 use mir.Syntax.{w8}
 use mir.Val.{Fits}
 use borrow.Author.Tests.{ne-eqb}
-use Rattle.rules.specs.Machine.{pick, cpu, vdp, register, Mem, mem, State, state, beside, onward}
+use Rattle.rules.specs.Machine.{pick, Kind, cpu, vdp, register, grom, Mem, mem, cells, State, state, beside, onward}
 use Rattle.rules.specs.Answers.{Why, Answer, well, answerFor, offGrom, wrongLength}
 use Rattle.rules.specs.Journal.{markWord, Store, undo, blanked}
 use Rattle.rules.specs.Rules.{Rule, Out, got, stopped, then, after, valued, next, nextByte, perform, exec}
@@ -32,8 +32,8 @@ use Rattle.bench.specs.Meaning.{stateAt, Returned, returned, outcome, re
 -- ---- a task attempted
 
 -- past an opcode, which stood at pc, the mark and the task are the rules' attempt
-pub tries : {i p v g j : List ℕ} {t : Task} {pc pc₁ u : ℕ} {n : Now} {s e : Stand} → n ≡ began pc₁ u
-    → outOf s ≡ then (outOf (standing i p v g j n)) (λ _ pc₂ m₂. takeMark pc pc₂ m₂) → Goes s (ruleOf t) tt e → Tries t pc₁ (state pc (mem i p v g j u)) e
+pub tries : {w : ℕ} {i p v g j : List ℕ} {t : Task} {pc pc₁ u : ℕ} {n : Now} {s e : Stand} → n ≡ began pc₁ u
+    → outOf s ≡ then (outOf (standing i w p v g j n)) (λ _ pc₂ m₂. takeMark pc pc₂ m₂) → Goes s (ruleOf t) tt e → Tries t pc₁ (state pc (mem i w p v g j u)) e
 unfolding begin outs
 tries {t = t} b k h = record { is = chain.done h ∙ ap (λ (x : Out (Unit {0})). after x (ruleOf t)) (k ∙ rw b) }
 
@@ -76,33 +76,40 @@ module _ {t : Task} {a : Answer} {pc₁ pc₂ : ℕ} {s : State} {m : Mem} (g : 
   unfolding outs
   put-back l b h = rollback-step l b (rw (ne-eqb (a .number) 0 h) at tried)
 
-pub task-done : {i p v g j : List ℕ} {t : Task} {a : Answer} {pc₁ pc u n : ℕ} {s : State} → Tries t pc₁ s (stand a pc (mem i p v g j u)) → a .number ≡ 0 → n ≡ u - s .mem .used - 1
-    → Tells told (beginning t pc₁) s (returned i p v g j (record { answer = 0; address = 0; stores = n; at = record { pc = pc; used = u } }))
+pub task-done : {w : ℕ} {i p v g j : List ℕ} {t : Task} {a : Answer} {pc₁ pc u n : ℕ} {s : State} → Tries t pc₁ s (stand a pc (mem i w p v g j u)) → a .number ≡ 0
+    → n ≡ u - s .mem .used - 1
+    → Tells told (beginning t pc₁) s (returned i p v g j (record { answer = 0; address = 0; stores = n; at = record { pc = pc; used = u; writable = w } }))
 unfolding outs replies
-task-done {i} {p} {v} {g} {j} {t} {a} {pc₁} {pc} {u} {n} {s} h z q =
+task-done {w} {i} {p} {v} {g} {j} {t} {a} {pc₁} {pc} {u} {n} {s} h z q =
     let ss : List Store = beginStores (s .pc) (does t) pc₁ (s .mem) in
     let count : n ≡ length ss = omega (arith, counted h z) in
-    record { is = ap (outcome (done (state pc (mem i p v g j u)))) count ∙ ap (λ (o : Out (Unit {0})). settled s o ss) (rw z at (h .is)) }
+    record { is = ap (outcome (done (state pc (mem i w p v g j u)))) count ∙ ap (λ (o : Out (Unit {0})). settled s o ss) (rw z at (h .is)) }
 
 -- bytes are bytes
 abbrev pub AreBytes : List ℕ → Type 0
 AreBytes l = (n : ℕ) → Fits w8 (getD l n 0)
 
-pub bytes-of : (m : Mem) → AreBytes (m .pad) → AreBytes (m .vram) → AreBytes (m .regs) → Bytes m
-bytes-of m a b c cpu n = a n .fits
-bytes-of m a b c vdp n = b n .fits
-bytes-of m a b c register n = c n .fits
+pub bytes-of : (m : Mem) → m .groups < 256 → AreBytes (m .image) → AreBytes (m .pad) → AreBytes (m .vram) → AreBytes (m .regs) → Bytes m
+bytes-of m w d a b c = (cell, w)
+  where
+    cell : (k : Kind) (n : ℕ) → getD (cells k m) n 0 < 256
+    cell cpu n = a n .fits
+    cell vdp n = b n .fits
+    cell register n = c n .fits
+    cell grom n = d n .fits
 
-pub task-undone : {i p v g j p₂ v₂ g₂ j₂ p₃ v₃ g₃ j₃ : List ℕ} {t : Task} {at : At} {a : Answer} {pc₁ pc₂ u w : ℕ} → at .pc < 65536 → AreBytes p → AreBytes v → AreBytes g
-    → Tries t pc₁ (stateAt i p v g j at) (stand a pc₂ (mem i p₂ v₂ g₂ j₂ u)) → (a .number ≡ 0 → ⊥) → mem i p₃ v₃ g₃ j₃ w ≡ undo (u - at .used) (mem i p₂ v₂ g₂ j₂ u)
-    → Tells told (beginning t pc₁) (stateAt i p v g j at) (returned i p₃ v₃ g₃ j₃ (refusal a at))
+pub task-undone : {i p v g j i₂ p₂ v₂ g₂ j₂ i₃ p₃ v₃ g₃ j₃ : List ℕ} {t : Task} {at : At} {a : Answer} {pc₁ pc₂ u x : ℕ} → at .pc < 65536 → at .writable < 256
+    → AreBytes i → AreBytes p → AreBytes v → AreBytes g
+    → Tries t pc₁ (stateAt i p v g j at) (stand a pc₂ (mem i₂ (at .writable) p₂ v₂ g₂ j₂ u)) → (a .number ≡ 0 → ⊥)
+    → mem i₃ (at .writable) p₃ v₃ g₃ j₃ x ≡ undo (u - at .used) (mem i₂ (at .writable) p₂ v₂ g₂ j₂ u)
+    → Tells told (beginning t pc₁) (stateAt i p v g j at) (returned i₃ p₃ v₃ g₃ j₃ (refusal a at))
 unfolding outs replies
-task-undone {i} {p} {v} {g} {j} {p₃ = p₃} {v₃ = v₃} {g₃ = g₃} {j₃ = j₃} {t = t} {at = at} {a = a} {pc₁ = pc₁} {u = u} {w = w} l bp bv bg h f q =
+task-undone {i} {p} {v} {g} {j} {i₃ = i₃} {p₃ = p₃} {v₃ = v₃} {g₃ = g₃} {j₃ = j₃} {t = t} {at = at} {a = a} {pc₁ = pc₁} {u = u} {x = x} l lw bi bp bv bg h f q =
     let s : State = stateAt i p v g j at in
     let ss : List Store = beginStores (at .pc) (does t) pc₁ (s .mem) in
     let k : ℕ = u - at .used in
-    let back : mem i p₃ v₃ g₃ j₃ w ≡ blanked k (s .mem) = q ∙ put-back h l (bytes-of (s .mem) bp bv bg) f in
-    let same : mem i p₃ v₃ g₃ j₃ (at .used) ≡ blanked k (s .mem) = ap (λ (x : Mem). beside (x .journal) (at .used) x) back in
+    let back : mem i₃ (at .writable) p₃ v₃ g₃ j₃ x ≡ blanked k (s .mem) = q ∙ put-back h l (bytes-of (s .mem) lw bi bp bv bg) f in
+    let same : mem i₃ (at .writable) p₃ v₃ g₃ j₃ (at .used) ≡ blanked k (s .mem) = ap (λ (x : Mem). beside (x .journal) (at .used) x) back in
     record {
       is = rw (ne-eqb (a .number) 0 f) (ap (λ (x : Mem). outcome (refused a (state (at .pc) x)) 0) same
           ∙ ap (λ (o : Out (Unit {0})). settled s o ss) (rw (ne-eqb (a .number) 0 f) at (h .is)));
@@ -111,9 +118,9 @@ task-undone {i} {p} {v} {g} {j} {p₃ = p₃} {v₃ = v₃} {g₃ = g₃} {j₃ 
 -- ---- the opcode read
 
 -- of a machine that has begun, by where it has
-pub from : {A : Type 0} {i p v g j : List ℕ} {n : Now} {pc u : ℕ} {r : Rule A} {a : A} {t : Stand} → n ≡ began pc u
-    → Goes (standing i p v g j n) r a t → Goes (stand well pc (mem i p v g j u)) r a t
-from {i = i} {p = p} {v = v} {g = g} {j = j} {r = r} {a = a} {t = t} e h = subst (λ (x : Now). Goes (standing i p v g j x) r a t) e h
+pub from : {A : Type 0} {w : ℕ} {i p v g j : List ℕ} {n : Now} {pc u : ℕ} {r : Rule A} {a : A} {t : Stand} → n ≡ began pc u
+    → Goes (standing i w p v g j n) r a t → Goes (stand well pc (mem i w p v g j u)) r a t
+from {w = w} {i = i} {p = p} {v = v} {g = g} {j = j} {r = r} {a = a} {t = t} e h = subst (λ (x : Now). Goes (standing i w p v g j x) r a t) e h
 
 then-got : {A : Type 0} (o : Out A) → then o (λ v pc m. got v pc m) ≡ o
 then-got (got v pc m) = refl
@@ -169,12 +176,12 @@ module _ {b pc₁ : ℕ} {a : Answer} {s : State} {m : Mem} (g : Goes (stand wel
       }
 
 -- stopped before the mark
-untouched : {i p v g j : List ℕ} {at : At} {a : Answer} → (a .number ≡ 0 → ⊥) → attempt (stateAt i p v g j at) ≡ stopped a (mem i p v g j (at .used))
+untouched : {i p v g j : List ℕ} {at : At} {a : Answer} → (a .number ≡ 0 → ⊥) → attempt (stateAt i p v g j at) ≡ stopped a (mem i (at .writable) p v g j (at .used))
     → Tells told settling (stateAt i p v g j at) (returned i p v g j (refusal a at))
 unfolding replies
 untouched {at = at} {a = a} h e = record { is = rw (ne-eqb (a .number) 0 h, e, sub-self (at .used)) }
 
-module _ {i p v g j : List ℕ} {at : At} {b pc₁ : ℕ} {a : Answer} {m : Mem} (h : Goes (stand well (at .pc) (mem i p v g j (at .used))) nextByte b (stand a pc₁ m)) where
+module _ {i p v g j : List ℕ} {at : At} {b pc₁ : ℕ} {a : Answer} {m : Mem} (h : Goes (stand well (at .pc) (mem i (at .writable) p v g j (at .used))) nextByte b (stand a pc₁ m)) where
   -- 6: no opcode
   pub step-beyond : (a .number ≡ 0 → ⊥) → Tells told settling (stateAt i p v g j at) (returned i p v g j (refusal a at))
   step-beyond f = untouched f (attempt-missed h f)

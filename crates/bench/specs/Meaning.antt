@@ -22,12 +22,12 @@ use Rattle.bench.specs.declared.viewer.Memory.the-variants.{Cpu, Vdp}
 
 -- ---- where a machine stands
 
-abbrev pub stands : Now → At
-stands m = record { pc = m .pc; used = m .used }
+abbrev pub stands : Now → ℕ → At
+stands m w = record { pc = m .pc; used = m .used; writable = w }
 
 -- beside image, pad, VDP RAM, registers and journal
 abbrev pub stateAt : List ℕ → List ℕ → List ℕ → List ℕ → List ℕ → At → State
-stateAt i p v g j at = state (at .pc) (mem i p v g j (at .used))
+stateAt i p v g j at = state (at .pc) (mem i (at .writable) p v g j (at .used))
 
 -- ---- what test 11 asks
 

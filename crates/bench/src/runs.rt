@@ -8,7 +8,7 @@ ghost use mathlib.Core.Path.{_≡_};
 ghost use Rattle.rules.specs.Answers.{answerFor};
 ghost use Rattle.rules.specs.Calls;
 ghost use Rattle.rules.specs.Calls.{steps};
-ghost use Rattle.machine.specs.Meaning.{whyOf, _&_, Image, Journal, Pad, Regs, Vram};
+ghost use Rattle.machine.specs.Meaning.{whyOf, _&_, Groups, Image, Journal, Pad, Regs, Vram};
 ghost use Rattle.bench.specs.Meaning.{noSteps, Fits, Reports};
 
 // What a run leaves: its answer, with the address that was turned down or 0, how many steps were done, how many bytes these stored, and where
@@ -36,7 +36,7 @@ fn turned_down(why: Why, at: At) -> Report
 
 // A run past test 11, which every accepted step leaves passed.
 fn fit_run(
-    image: &[u8],
+    image: &mut [u8],
     pad: &mut [u8],
     vram: &mut [u8],
     regs: &mut [u8],
@@ -45,7 +45,7 @@ fn fit_run(
     n: u32,
 ) -> Report
     requires { ⌜ Fits image pad vram regs journal at ⌝ }
-    ensures { λ r. ⌜ Reports (steps n) (Image image & Pad pad & Vram vram & Regs regs & Journal journal) at r ⌝ }
+    ensures { λ r. ⌜ Reports (steps n) (Image image & Groups (at .writable) & Pad pad & Vram vram & Regs regs & Journal journal) at r ⌝ }
 {
     let mut here = at;
     let mut done: u32 = 0;
@@ -76,7 +76,7 @@ fn fit_run(
 
 // Up to n steps, to the first answer other than 0.
 pub fn run(
-    image: &[u8],
+    image: &mut [u8],
     pad: &mut [u8],
     vram: &mut [u8],
     regs: &mut [u8],
@@ -84,7 +84,7 @@ pub fn run(
     at: At,
     n: u32,
 ) -> Report
-    ensures { λ r. ⌜ Reports (Calls.run n) (Image image & Pad pad & Vram vram & Regs regs & Journal journal) at r ⌝ }
+    ensures { λ r. ⌜ Reports (Calls.run n) (Image image & Groups (at .writable) & Pad pad & Vram vram & Regs regs & Journal journal) at r ⌝ }
 {
     let fit = fits::all_fit(
         image.len(),

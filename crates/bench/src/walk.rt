@@ -10,7 +10,7 @@ use opcode::class::Task;
 ghost use mathlib.Core.Path.{_≡_};
 ghost use Rattle.rules.specs.Answers.{saying, answerFor};
 ghost use Rattle.opcode.specs.Meaning.{taskOf};
-ghost use Rattle.machine.specs.Meaning.{whyOf, _&_, Image, Journal, Pad, Regs, Vram};
+ghost use Rattle.machine.specs.Meaning.{whyOf, _&_, Groups, Image, Journal, Pad, Regs, Vram};
 ghost use Rattle.bench.specs.Meaning.{Fit, Attempts, Replies, refusal, beginning, settling, stepping, undoing, backing};
 
 // What a call leaves: its answer, with the address that was turned down or 0, how many bytes it stored, and where the machine stands.
@@ -42,7 +42,7 @@ fn turned_down(why: Why, at: At) -> Reply
 
 // The mark and the task. The opcode stood at `at`, and `next` is past it.
 fn try_task(
-    image: &[u8],
+    image: &mut [u8],
     pad: &mut [u8],
     vram: &mut [u8],
     regs: &mut [u8],
@@ -52,15 +52,15 @@ fn try_task(
     task: Task,
 ) -> Now
     requires { ⌜ Fit pad vram regs journal at ⌝ }
-    ensures { λ m. ⌜ Attempts (taskOf task) next (Image image & Pad pad & Vram vram & Regs regs & Journal journal) at m ⌝ }
+    ensures { λ m. ⌜ Attempts (taskOf task) next (Image image & Groups (at .writable) & Pad pad & Vram vram & Regs regs & Journal journal) at m ⌝ }
 {
     let marked = machine::journal::take_mark(journal, at::begin(at, next), at.pc);
-    opcode::task::perform(image, pad, vram, regs, journal, marked, task)
+    opcode::task::perform(image, pad, vram, regs, journal, marked, at.writable, task)
 }
 
 // A task, and on a refusal all put back.
 fn do_task(
-    image: &[u8],
+    image: &mut [u8],
     pad: &mut [u8],
     vram: &mut [u8],
     regs: &mut [u8],
@@ -70,7 +70,7 @@ fn do_task(
     task: Task,
 ) -> Reply
     requires { ⌜ Fit pad vram regs journal at ⌝ }
-    ensures { λ r. ⌜ Replies (beginning (taskOf task) next) (Image image & Pad pad & Vram vram & Regs regs & Journal journal) at r ⌝ }
+    ensures { λ r. ⌜ Replies (beginning (taskOf task) next) (Image image & Groups (at .writable) & Pad pad & Vram vram & Regs regs & Journal journal) at r ⌝ }
 {
     let m = try_task(image, pad, vram, regs, journal, at, next, task);
     let top = m.used;
@@ -81,16 +81,16 @@ fn do_task(
             answer: 0,
             address: 0,
             stores: stores as u64,
-            at: at::reached(m),
+            at: at::reached(m, at.writable),
         };
     }
-    machine::journal::undo(pad, vram, regs, journal, top, taken);
+    machine::journal::undo(image, pad, vram, regs, journal, top, taken);
     refused(m.answer, m.address, at)
 }
 
 // A step past test 11: the opcode, and its class.
 pub(crate) fn fit_step(
-    image: &[u8],
+    image: &mut [u8],
     pad: &mut [u8],
     vram: &mut [u8],
     regs: &mut [u8],
@@ -98,7 +98,7 @@ pub(crate) fn fit_step(
     at: At,
 ) -> Reply
     requires { ⌜ Fit pad vram regs journal at ⌝ }
-    ensures { λ r. ⌜ Replies settling (Image image & Pad pad & Vram vram & Regs regs & Journal journal) at r ⌝ }
+    ensures { λ r. ⌜ Replies settling (Image image & Groups (at .writable) & Pad pad & Vram vram & Regs regs & Journal journal) at r ⌝ }
 {
     let op = machine::grom::next_byte(image, at::begin(at, at.pc));
     if op.answer != 0 {
@@ -112,14 +112,14 @@ pub(crate) fn fit_step(
 }
 
 pub fn step(
-    image: &[u8],
+    image: &mut [u8],
     pad: &mut [u8],
     vram: &mut [u8],
     regs: &mut [u8],
     journal: &mut [u32],
     at: At,
 ) -> Reply
-    ensures { λ r. ⌜ Replies stepping (Image image & Pad pad & Vram vram & Regs regs & Journal journal) at r ⌝ }
+    ensures { λ r. ⌜ Replies stepping (Image image & Groups (at .writable) & Pad pad & Vram vram & Regs regs & Journal journal) at r ⌝ }
 {
     let fit = fits::all_fit(
         image.len(),
@@ -138,19 +138,27 @@ pub fn step(
 // ---- a step back
 
 // A step back past test 11.
-fn fit_back(pad: &mut [u8], vram: &mut [u8], regs: &mut [u8], journal: &mut [u32], at: At) -> Reply
+fn fit_back(
+    image: &mut [u8],
+    pad: &mut [u8],
+    vram: &mut [u8],
+    regs: &mut [u8],
+    journal: &mut [u32],
+    at: At,
+) -> Reply
     requires { ⌜ Fit pad vram regs journal at ⌝ }
-    ensures { λ r. ⌜ Replies undoing (Pad pad & Vram vram & Regs regs & Journal journal) at r ⌝ }
+    ensures { λ r. ⌜ Replies undoing (Image image & Groups (at .writable) & Pad pad & Vram vram & Regs regs & Journal journal) at r ⌝ }
 {
-    let found = machine::journal::find(journal, at.used);
+    let found = machine::journal::find(journal, at.used, image.len(), at.writable);
     let words = found.words;
     if words == 0 {
         return turned_down(Why::NoRecord, at);
     }
-    let left = machine::journal::undo(pad, vram, regs, journal, at.used, words);
+    let left = machine::journal::undo(image, pad, vram, regs, journal, at.used, words);
     let back = At {
         pc: found.pc,
         used: left,
+        writable: at.writable,
     };
     Reply {
         answer: 0,
@@ -161,17 +169,25 @@ fn fit_back(pad: &mut [u8], vram: &mut [u8], regs: &mut [u8], journal: &mut [u32
 }
 
 pub fn step_back(
+    image: &mut [u8],
     pad: &mut [u8],
     vram: &mut [u8],
     regs: &mut [u8],
     journal: &mut [u32],
     at: At,
 ) -> Reply
-    ensures { λ r. ⌜ Replies backing (Pad pad & Vram vram & Regs regs & Journal journal) at r ⌝ }
+    ensures { λ r. ⌜ Replies backing (Image image & Groups (at .writable) & Pad pad & Vram vram & Regs regs & Journal journal) at r ⌝ }
 {
-    let fit = fits::parts_fit(pad.len(), vram.len(), regs.len(), journal.len(), at.used);
-    if !fit {
+    let parts = fits::all_fit(
+        image.len(),
+        pad.len(),
+        vram.len(),
+        regs.len(),
+        journal.len(),
+        at.used,
+    );
+    if !parts {
         return turned_down(Why::WrongLength, at);
     }
-    fit_back(pad, vram, regs, journal, at)
+    fit_back(image, pad, vram, regs, journal, at)
 }

@@ -4,10 +4,10 @@ use Prim.Native.Nat.{ℕ}
 use Rattle.rules.specs.Machine.{vdp}
 use Rattle.rules.specs.Rules.{poke}
 use Rattle.rules.specs.Operands.{Cell}
-use Rattle.rules.specs.Instructions.{From, moveByte, moveBytes, fill}
+use Rattle.rules.specs.Instructions.{moveByte, moveBytes, fill}
 use Rattle.rules.proofs.Loops.{Repeats}
 
-pub moves : (f : From) (c : Cell) → Repeats (λ n k. moveBytes n k f c) (λ k. moveByte f c k)
+pub moves : (f c : Cell) → Repeats (λ n k. moveBytes n k f c) (λ k. moveByte f c k)
 unfolding moveBytes
 moves f c = record { none = λ k. refl; more = λ n k. refl }
 

@@ -1,9 +1,8 @@
 -- What the code's two ends of a MOVE say, in the words of the rules.
-use Rattle.rules.specs.Machine.{cpu, vdp, register}
+use Rattle.rules.specs.Machine.{cpu, vdp, register, grom}
 use Rattle.rules.specs.Operands.{Cell, cell}
-use Rattle.rules.specs.Instructions as rules
 use Rattle.block.specs.declared.ends.Target.{Target}
-use Rattle.block.specs.declared.ends.Target.the-variants.{Pad, Video, Register}
+use Rattle.block.specs.declared.ends.Target.the-variants.{Pad, Video, Register, Gram}
 use Rattle.block.specs.declared.ends.Origin.{Origin}
 use Rattle.block.specs.declared.ends.Origin.the-variants.{Grom, Cpu, Vdp}
 
@@ -12,9 +11,10 @@ abbrev pub targetOf : Target → Cell
 targetOf (Pad a) = cell cpu a
 targetOf (Video a) = cell vdp a
 targetOf (Register n) = cell register n
+targetOf (Gram a) = cell grom a
 
 -- where its first byte comes from
-abbrev pub originOf : Origin → rules.From
-originOf (Grom a) = rules.fromGrom a
-originOf (Cpu a) = rules.fromCell (cell cpu a)
-originOf (Vdp a) = rules.fromCell (cell vdp a)
+abbrev pub originOf : Origin → Cell
+originOf (Grom a) = cell grom a
+originOf (Cpu a) = cell cpu a
+originOf (Vdp a) = cell vdp a

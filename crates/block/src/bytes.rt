@@ -3,11 +3,11 @@ use crate::ends::Origin;
 use crate::ends::Target;
 use machine::cells;
 use machine::state::Now;
-ghost use Rattle.rules.specs.Machine.{cpu, register, vdp};
-ghost use Rattle.rules.specs.Operands.{cell, past};
-ghost use Rattle.rules.specs.Instructions.{sourceByte, registerOne, moveByte, fromGrom, fromCell};
+ghost use Rattle.rules.specs.Machine.{cpu, grom, register, vdp};
+ghost use Rattle.rules.specs.Operands.{cell};
+ghost use Rattle.rules.specs.Instructions.{beyond, sourceByte, registerOne, moveByte};
 ghost use Rattle.rules.specs.Instructions;
-ghost use Rattle.machine.specs.Meaning.{_&_, Does, Gives, Image, IsPad, IsRegs, IsVram, Journal, Pad, Regs, Vram};
+ghost use Rattle.machine.specs.Meaning.{_&_, Does, Gives, Groups, Image, IsPad, IsRegs, IsVram, Journal, Pad, Regs, Vram};
 ghost use Rattle.block.specs.Meaning.{targetOf, originOf};
 
 // A GROM address counts in 16 bits.
@@ -55,18 +55,21 @@ fn to_register(
     machine::registers::poke_reg(regs, journal, m, at, b)
 }
 
+// To the image only in a writable group, whose address counts in 16 bits too.
 fn deliver(
+    image: &mut [u8],
     pad: &mut [u8],
     vram: &mut [u8],
     regs: &mut [u8],
     journal: &mut [u32],
     m: Now,
+    groups: u8,
     to: Target,
     k: u16,
     b: u8,
 ) -> Now
     requires { ⌜ IsPad pad × IsVram vram × IsRegs regs ⌝ }
-    ensures { λ r. ⌜ Does (Instructions.deliver (past k (targetOf to)) b) (Pad pad & Vram vram & Regs regs & Journal journal) m r ⌝ }
+    ensures { λ r. ⌜ Does (Instructions.deliver (beyond k (targetOf to)) b) (Image image & Groups groups & Pad pad & Vram vram & Regs regs & Journal journal) m r ⌝ }
 {
     match to {
         Target::Pad(a) => {
@@ -81,25 +84,34 @@ fn deliver(
             let at = n as usize + k as usize;
             to_register(pad, regs, journal, m, at, b)
         }
+        Target::Gram(a) => machine::grom::poke_grom(
+            image,
+            journal,
+            m,
+            groups,
+            number::addresses::plus(a, k),
+            b,
+        ),
     }
 }
 
 pub fn move_byte(
-    image: &[u8],
+    image: &mut [u8],
     pad: &mut [u8],
     vram: &mut [u8],
     regs: &mut [u8],
     journal: &mut [u32],
     m: Now,
+    groups: u8,
     from: Origin,
     to: Target,
     k: u16,
 ) -> Now
     requires { ⌜ IsPad pad × IsVram vram × IsRegs regs ⌝ }
-    ensures { λ r. ⌜ Does (moveByte (originOf from) (targetOf to) k) (Image image & Pad pad & Vram vram & Regs regs & Journal journal) m r ⌝ }
+    ensures { λ r. ⌜ Does (moveByte (originOf from) (targetOf to) k) (Image image & Groups groups & Pad pad & Vram vram & Regs regs & Journal journal) m r ⌝ }
 {
     let b = source_byte(image, pad, vram, m, from, k);
-    deliver(pad, vram, regs, journal, b, to, k, b.byte)
+    deliver(image, pad, vram, regs, journal, b, groups, to, k, b.byte)
 }
 
 // From GROM to VDP RAM.
@@ -113,7 +125,7 @@ pub fn grom_to_vdp(
     k: u16,
 ) -> Now
     requires { ⌜ IsVram vram ⌝ }
-    ensures { λ r. ⌜ Does (moveByte (fromGrom a) (cell vdp t) k) (Image image & Vram vram & Journal journal) m r ⌝ }
+    ensures { λ r. ⌜ Does (moveByte (cell grom a) (cell vdp t) k) (Image image & Vram vram & Journal journal) m r ⌝ }
 {
     let b = machine::grom::grom_byte(image, m, number::addresses::plus(a, k));
     let at = t as usize + k as usize;
@@ -131,7 +143,7 @@ pub fn pad_to_vdp(
     k: u16,
 ) -> Now
     requires { ⌜ IsPad pad × IsVram vram ⌝ }
-    ensures { λ r. ⌜ Does (moveByte (fromCell (cell cpu a)) (cell vdp t) k) (Pad pad & Vram vram & Journal journal) m r ⌝ }
+    ensures { λ r. ⌜ Does (moveByte (cell cpu a) (cell vdp t) k) (Pad pad & Vram vram & Journal journal) m r ⌝ }
 {
     let from = a as usize + k as usize;
     let b = machine::pad::peek_pad(pad, m, from);
@@ -142,7 +154,7 @@ pub fn pad_to_vdp(
 // Within VDP RAM.
 pub fn vdp_to_vdp(vram: &mut [u8], journal: &mut [u32], m: Now, a: u16, t: u16, k: u16) -> Now
     requires { ⌜ IsVram vram ⌝ }
-    ensures { λ r. ⌜ Does (moveByte (fromCell (cell vdp a)) (cell vdp t) k) (Vram vram & Journal journal) m r ⌝ }
+    ensures { λ r. ⌜ Does (moveByte (cell vdp a) (cell vdp t) k) (Vram vram & Journal journal) m r ⌝ }
 {
     let from = a as usize + k as usize;
     let b = machine::vdp::peek_vdp(vram, m, from);

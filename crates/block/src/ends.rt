@@ -2,9 +2,9 @@
 use machine::state::Now;
 use operand::places::Place;
 ghost use mathlib.Core.Path.{_≡_};
-ghost use Rattle.rules.specs.Operands.{place};
-ghost use Rattle.rules.specs.Instructions;
-ghost use Rattle.rules.specs.Instructions.{registerCell, moveTarget, gromSource, cellSource, moveSource};
+ghost use Rattle.rules.specs.Machine.{grom};
+ghost use Rattle.rules.specs.Operands.{cell, place};
+ghost use Rattle.rules.specs.Instructions.{registerCell, ramTarget, moveTarget, gromCell, moveSource};
 ghost use Rattle.machine.specs.Meaning.{_&_, Gives, Image, IsPad, Journal, Pad};
 ghost use Rattle.operand.specs.Meaning.{cellOf};
 ghost use Rattle.block.specs.Meaning.{targetOf, originOf};
@@ -13,6 +13,7 @@ pub enum Target {
     Pad(u16),
     Video(u16),
     Register(u8),
+    Gram(u16),
 }
 
 pub enum Origin {
@@ -42,7 +43,7 @@ fn target_at(place: Place) -> Target
 }
 
 fn origin_at(place: Place) -> Origin
-    ensures { λ r. ⌜ originOf r ≡ Instructions.fromCell (cellOf place) ⌝ }
+    ensures { λ r. ⌜ originOf r ≡ cellOf place ⌝ }
 {
     match place {
         Place::Cpu(a) => Origin::Cpu(a),
@@ -72,15 +73,9 @@ fn place_target(image: &[u8], pad: &mut [u8], journal: &mut [u32], m: Now) -> Ai
 }
 
 // A register number, or a place.
-pub fn move_target(
-    image: &[u8],
-    pad: &mut [u8],
-    journal: &mut [u32],
-    m: Now,
-    register: bool,
-) -> Aimed
+fn ram_target(image: &[u8], pad: &mut [u8], journal: &mut [u32], m: Now, register: bool) -> Aimed
     requires { ⌜ IsPad pad ⌝ }
-    ensures { λ r. ⌜ Gives (targetOf (r .target)) (moveTarget register) (Image image & Pad pad & Journal journal) m (r .now) ⌝ }
+    ensures { λ r. ⌜ Gives (targetOf (r .target)) (ramTarget register) (Image image & Pad pad & Journal journal) m (r .now) ⌝ }
 {
     if register {
         return register_cell(image, m);
@@ -89,21 +84,39 @@ pub fn move_target(
 }
 
 // A two-byte address, with an index or not.
-fn grom_source(image: &[u8], pad: &[u8], m: Now, x: bool) -> Drawn
+fn grom_cell(image: &[u8], pad: &[u8], m: Now, x: bool) -> Now
     requires { ⌜ IsPad pad ⌝ }
-    ensures { λ r. ⌜ Gives (originOf (r .origin)) (gromSource x) (Image image & Pad pad) m (r .now) ⌝ }
+    ensures { λ r. ⌜ Gives (cell grom (r .word)) (gromCell x) (Image image & Pad pad) m r ⌝ }
 {
     let a = machine::grom::next_word(image, m);
-    let e = operand::decode::indexed(image, pad, a, x, a.word);
-    Drawn {
-        now: e,
-        origin: Origin::Grom(e.word),
+    operand::decode::indexed(image, pad, a, x, a.word)
+}
+
+// In RAM, or in the image.
+pub fn move_target(
+    image: &[u8],
+    pad: &mut [u8],
+    journal: &mut [u32],
+    m: Now,
+    ram: bool,
+    register: bool,
+) -> Aimed
+    requires { ⌜ IsPad pad ⌝ }
+    ensures { λ r. ⌜ Gives (targetOf (r .target)) (moveTarget ram register) (Image image & Pad pad & Journal journal) m (r .now) ⌝ }
+{
+    if ram {
+        return ram_target(image, pad, journal, m, register);
+    }
+    let a = grom_cell(image, pad, m, false);
+    Aimed {
+        now: a,
+        target: Target::Gram(a.word),
     }
 }
 
-fn cell_source(image: &[u8], pad: &mut [u8], journal: &mut [u32], m: Now) -> Drawn
+fn place_source(image: &[u8], pad: &mut [u8], journal: &mut [u32], m: Now) -> Drawn
     requires { ⌜ IsPad pad ⌝ }
-    ensures { λ r. ⌜ Gives (originOf (r .origin)) cellSource (Image image & Pad pad & Journal journal) m (r .now) ⌝ }
+    ensures { λ r. ⌜ Gives (originOf (r .origin)) place (Image image & Pad pad & Journal journal) m (r .now) ⌝ }
 {
     let o = operand::decode::operand(image, pad, journal, m, 1);
     Drawn {
@@ -125,7 +138,11 @@ pub fn move_source(
     ensures { λ r. ⌜ Gives (originOf (r .origin)) (moveSource operand x) (Image image & Pad pad & Journal journal) m (r .now) ⌝ }
 {
     if operand {
-        return cell_source(image, pad, journal, m);
+        return place_source(image, pad, journal, m);
     }
-    grom_source(image, pad, m, x)
+    let a = grom_cell(image, pad, m, x);
+    Drawn {
+        now: a,
+        origin: Origin::Grom(a.word),
+    }
 }

@@ -5,10 +5,10 @@ use crate::ends::Origin;
 use crate::ends::Target;
 use machine::state::Now;
 ghost use mathlib.Core.Path.{_≡_};
-ghost use Rattle.rules.specs.Machine.{cpu, vdp};
+ghost use Rattle.rules.specs.Machine.{cpu, grom, vdp};
 ghost use Rattle.rules.specs.Operands.{cell};
-ghost use Rattle.rules.specs.Instructions.{moveCount, moveBytes, moveRule, fromGrom, fromCell};
-ghost use Rattle.machine.specs.Meaning.{_&_, Does, Image, IsPad, IsRegs, IsVram, Journal, Pad, Regs, Vram};
+ghost use Rattle.rules.specs.Instructions.{moveCount, moveBytes, moveRule};
+ghost use Rattle.machine.specs.Meaning.{_&_, Does, Groups, Image, IsPad, IsRegs, IsVram, Journal, Pad, Regs, Vram};
 ghost use Rattle.block.specs.Meaning.{targetOf, originOf};
 
 // How many bytes a length moves: from 1 to >8000 as many, any other one.
@@ -35,7 +35,7 @@ fn grom_bytes(
     t: u16,
 ) -> Now
     requires { ⌜ IsVram vram ⌝ }
-    ensures { λ r. ⌜ Does (moveBytes n 0 (fromGrom a) (cell vdp t)) (Image image & Vram vram & Journal journal) m r ⌝ }
+    ensures { λ r. ⌜ Does (moveBytes n 0 (cell grom a) (cell vdp t)) (Image image & Vram vram & Journal journal) m r ⌝ }
 {
     let mut x = m;
     let mut k: u16 = 0;
@@ -59,7 +59,7 @@ fn pad_bytes(
     t: u16,
 ) -> Now
     requires { ⌜ IsPad pad × IsVram vram ⌝ }
-    ensures { λ r. ⌜ Does (moveBytes n 0 (fromCell (cell cpu a)) (cell vdp t)) (Pad pad & Vram vram & Journal journal) m r ⌝ }
+    ensures { λ r. ⌜ Does (moveBytes n 0 (cell cpu a) (cell vdp t)) (Pad pad & Vram vram & Journal journal) m r ⌝ }
 {
     let mut x = m;
     let mut k: u16 = 0;
@@ -75,7 +75,7 @@ fn pad_bytes(
 
 fn vdp_bytes(vram: &mut [u8], journal: &mut [u32], m: Now, n: u16, a: u16, t: u16) -> Now
     requires { ⌜ IsVram vram ⌝ }
-    ensures { λ r. ⌜ Does (moveBytes n 0 (fromCell (cell vdp a)) (cell vdp t)) (Vram vram & Journal journal) m r ⌝ }
+    ensures { λ r. ⌜ Does (moveBytes n 0 (cell vdp a) (cell vdp t)) (Vram vram & Journal journal) m r ⌝ }
 {
     let mut x = m;
     let mut k: u16 = 0;
@@ -91,23 +91,24 @@ fn vdp_bytes(vram: &mut [u8], journal: &mut [u32], m: Now, n: u16, a: u16, t: u1
 
 // Any other way.
 fn any_bytes(
-    image: &[u8],
+    image: &mut [u8],
     pad: &mut [u8],
     vram: &mut [u8],
     regs: &mut [u8],
     journal: &mut [u32],
     m: Now,
+    groups: u8,
     n: u16,
     from: Origin,
     to: Target,
 ) -> Now
     requires { ⌜ IsPad pad × IsVram vram × IsRegs regs ⌝ }
-    ensures { λ r. ⌜ Does (moveBytes n 0 (originOf from) (targetOf to)) (Image image & Pad pad & Vram vram & Regs regs & Journal journal) m r ⌝ }
+    ensures { λ r. ⌜ Does (moveBytes n 0 (originOf from) (targetOf to)) (Image image & Groups groups & Pad pad & Vram vram & Regs regs & Journal journal) m r ⌝ }
 {
     let mut x = m;
     let mut k: u16 = 0;
     while k < n {
-        x = bytes::move_byte(image, pad, vram, regs, journal, x, from, to, k);
+        x = bytes::move_byte(image, pad, vram, regs, journal, x, groups, from, to, k);
         if x.answer != 0 {
             return x;
         }
@@ -118,18 +119,19 @@ fn any_bytes(
 
 // The bytes one by one, until one is refused. What goes to VDP RAM has loops of its own.
 fn move_bytes(
-    image: &[u8],
+    image: &mut [u8],
     pad: &mut [u8],
     vram: &mut [u8],
     regs: &mut [u8],
     journal: &mut [u32],
     m: Now,
+    groups: u8,
     n: u16,
     from: Origin,
     to: Target,
 ) -> Now
     requires { ⌜ IsPad pad × IsVram vram × IsRegs regs ⌝ }
-    ensures { λ r. ⌜ Does (moveBytes n 0 (originOf from) (targetOf to)) (Image image & Pad pad & Vram vram & Regs regs & Journal journal) m r ⌝ }
+    ensures { λ r. ⌜ Does (moveBytes n 0 (originOf from) (targetOf to)) (Image image & Groups groups & Pad pad & Vram vram & Regs regs & Journal journal) m r ⌝ }
 {
     match to {
         Target::Video(t) => match from {
@@ -137,29 +139,31 @@ fn move_bytes(
             Origin::Cpu(a) => pad_bytes(pad, vram, journal, m, n, a, t),
             Origin::Vdp(a) => vdp_bytes(vram, journal, m, n, a, t),
         },
-        _ => any_bytes(image, pad, vram, regs, journal, m, n, from, to),
+        _ => any_bytes(image, pad, vram, regs, journal, m, groups, n, from, to),
     }
 }
 
-// By the low four bits of the opcode: 3 a register, 2 a source operand, 1 an index, 0 an immediate length.
+// By the low five bits of the opcode: 4 to RAM, 3 a register, 2 a source operand, 1 an index, 0 an immediate length.
 pub fn move_block(
-    image: &[u8],
+    image: &mut [u8],
     pad: &mut [u8],
     vram: &mut [u8],
     regs: &mut [u8],
     journal: &mut [u32],
     m: Now,
+    groups: u8,
     bits: u8,
 ) -> Now
     requires { ⌜ IsPad pad × IsVram vram × IsRegs regs ⌝ }
-    ensures { λ r. ⌜ Does (moveRule bits) (Image image & Pad pad & Vram vram & Regs regs & Journal journal) m r ⌝ }
+    ensures { λ r. ⌜ Does (moveRule bits) (Image image & Groups groups & Pad pad & Vram vram & Regs regs & Journal journal) m r ⌝ }
 {
     let imm = number::bits::bit(0, bits);
     let x = number::bits::bit(1, bits);
     let placed = number::bits::bit(2, bits);
     let register = number::bits::bit(3, bits);
+    let ram = number::bits::bit(4, bits);
     let l = operand::values::source(image, pad, vram, journal, m, imm, true);
-    let to = ends::move_target(image, pad, journal, l, register);
+    let to = ends::move_target(image, pad, journal, l, ram, register);
     let from = ends::move_source(image, pad, journal, to.now, placed, x);
     let pushed = operand::stacks::push_pc(pad, journal, from.now);
     let origin = from.origin;
@@ -172,6 +176,7 @@ pub fn move_block(
         regs,
         journal,
         pushed,
+        groups,
         count,
         origin,
         target,

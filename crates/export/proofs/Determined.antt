@@ -34,14 +34,14 @@ numbers x l =
 read : Report → Returned Numbers
 read r = returnedOf (r .end .mem) (record { answer = r .answer .number; out = r .end .pc ∷ r .end .mem .used ∷ r .steps ∷ r .stores ∷ r .answer .address ∷ [] })
 
-read-heard : (x : Returned Numbers) → length (x .result .out) ≡ 5 → read (heard x) ≡ x
+read-heard : (w : ℕ) (x : Returned Numbers) → length (x .result .out) ≡ 5 → read (heard w x) ≡ x
 unfolding read heard numbers
-read-heard x e = ap (numbers x) (five (x .result .out) e)
+read-heard w x e = ap (numbers x) (five (x .result .out) e)
 
 -- a step, a run, a step back
-pub heard-determined : {f : State → Report} {s : State} {x y : Returned Numbers} → length (x .result .out) ≡ 5 → length (y .result .out) ≡ 5
-    → Tells heard f s x → Tells heard f s y → x ≡ y
-heard-determined {x = x} {y = y} e k h l = sym (read-heard x e) ∙ ap read (h .is ∙ sym (l .is)) ∙ read-heard y k
+pub heard-determined : (w : ℕ) {f : State → Report} {s : State} {x y : Returned Numbers} → length (x .result .out) ≡ 5 → length (y .result .out) ≡ 5
+    → Tells (heard w) f s x → Tells (heard w) f s y → x ≡ y
+heard-determined w {x = x} {y = y} e k h l = sym (read-heard w x e) ∙ ap read (h .is ∙ sym (l .is)) ∙ read-heard w y k
 
 -- the viewer
 pub shows-determined : {m : ℕ} {p v : List ℕ} {at len o n o₂ n₂ : ℕ} → Shows m p v at len o n → Shows m p v at len o₂ n₂ → o ∷ n ∷ [] ≡ o₂ ∷ n₂ ∷ []

@@ -1,3 +1,4 @@
+mod Groups
 mod Numbers
 mod Shown
 mod Determined

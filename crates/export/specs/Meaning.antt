@@ -17,15 +17,17 @@ pub record Numbers : Type 0 where
   pub answer : ℕ
   pub out : List ℕ
 
--- the report that these make, beside the parts as they are left
-unfoldable pub heard : Returned Numbers → calls.Report
-heard x =
+-- the report that these make, beside the parts as they are left and the writable groups that were lent, which no call alters
+unfoldable pub heard : ℕ → Returned Numbers → calls.Report
+heard w x =
     let out : List ℕ = x .result .out in
-    calls.report (saying (x .result .answer) (getD out 4 0)) (getD out 2 0) (getD out 3 0) (standsAt x (record { pc = getD out 0 0; used = getD out 1 0 }))
+    calls.report (saying (x .result .answer) (getD out 4 0)) (getD out 2 0) (getD out 3 0)
+    (standsAt x (record { pc = getD out 0 0; used = getD out 1 0; writable = w }))
 
--- an address and the used words go in; the answer and `out` are what the rules say of the parts lent
-abbrev pub Hears : (State → calls.Report) → (Parts → Parts) → ℕ → ℕ → ℕ → Lent → Type 0
-Hears f parts pc used answer out = Returns heard f (parts unseenAll) (record { pc = pc; used = used }) (record { answer = answer; out = now (out .exit) })
+-- an address, the used words and the writable groups go in; the answer and `out` are what the rules say of the parts lent
+abbrev pub Hears : (State → calls.Report) → (Parts → Parts) → ℕ → ℕ → ℕ → ℕ → Lent → Type 0
+Hears f parts pc used w answer out =
+    Returns (heard w) f (parts unseenAll) (record { pc = pc; used = used; writable = w }) (record { answer = answer; out = now (out .exit) })
 
 -- a reply as a report: one step where it was done, none where it was refused
 abbrev pub tallied : calls.Reply → ℕ → ℕ → calls.Report

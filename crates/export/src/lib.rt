@@ -7,7 +7,7 @@ ghost use lib.Dec.{eqb};
 ghost use lib.ListN.{length};
 ghost use Rattle.rules.specs.Machine.{pick};
 ghost use Rattle.rules.specs.Calls.{run};
-ghost use Rattle.machine.specs.Meaning.{_&_, Image, Journal, Pad, Regs, Vram};
+ghost use Rattle.machine.specs.Meaning.{_&_, Groups, Image, Journal, Pad, Regs, Vram};
 ghost use Rattle.export.specs.Meaning.{Hears, oneStep, oneBack, Shows, shown};
 
 // ---- steps
@@ -29,36 +29,38 @@ fn steps_of(answer: u8) -> u64
 // A run of one step: one machine code serves both.
 #[no_mangle]
 pub extern "C" fn argolythe_step(
-    image: &[u8],
+    image: &mut [u8],
     pad: &mut [u8],
     vdp: &mut [u8],
     reg: &mut [u8],
     journal: &mut [u32],
     pc: u16,
     used: usize,
+    writable: u8,
     out: &mut [u64; 5],
 ) -> u8
-    ensures { λ r. ⌜ Hears oneStep (Image image & Pad pad & Vram vdp & Regs reg & Journal journal) pc used r out ⌝ }
+    ensures { λ r. ⌜ Hears oneStep (Image image & Groups writable & Pad pad & Vram vdp & Regs reg & Journal journal) pc used writable r out ⌝ }
 {
-    argolythe_run(image, pad, vdp, reg, journal, pc, used, 1, out)
+    argolythe_run(image, pad, vdp, reg, journal, pc, used, writable, 1, out)
 }
 
 // Up to n steps.
 #[no_mangle]
 pub extern "C" fn argolythe_run(
-    image: &[u8],
+    image: &mut [u8],
     pad: &mut [u8],
     vdp: &mut [u8],
     reg: &mut [u8],
     journal: &mut [u32],
     pc: u16,
     used: usize,
+    writable: u8,
     n: u32,
     out: &mut [u64; 5],
 ) -> u8
-    ensures { λ r. ⌜ Hears (run n) (Image image & Pad pad & Vram vdp & Regs reg & Journal journal) pc used r out ⌝ }
+    ensures { λ r. ⌜ Hears (run n) (Image image & Groups writable & Pad pad & Vram vdp & Regs reg & Journal journal) pc used writable r out ⌝ }
 {
-    let r = bench::runs::run(image, pad, vdp, reg, journal, At { pc, used }, n);
+    let r = bench::runs::run(image, pad, vdp, reg, journal, At { pc, used, writable }, n);
     let steps = r.steps as u64;
     let at = r.at;
     tell(out, at, steps, r.stores, r.address);
@@ -68,17 +70,19 @@ pub extern "C" fn argolythe_run(
 // One step back: `steps` says whether one was taken back, and no stores are counted.
 #[no_mangle]
 pub extern "C" fn argolythe_step_back(
+    image: &mut [u8],
     pad: &mut [u8],
     vdp: &mut [u8],
     reg: &mut [u8],
     journal: &mut [u32],
     pc: u16,
     used: usize,
+    writable: u8,
     out: &mut [u64; 5],
 ) -> u8
-    ensures { λ r. ⌜ Hears oneBack (Pad pad & Vram vdp & Regs reg & Journal journal) pc used r out ⌝ }
+    ensures { λ r. ⌜ Hears oneBack (Image image & Groups writable & Pad pad & Vram vdp & Regs reg & Journal journal) pc used writable r out ⌝ }
 {
-    let r = bench::walk::step_back(pad, vdp, reg, journal, At { pc, used });
+    let r = bench::walk::step_back(image, pad, vdp, reg, journal, At { pc, used, writable });
     let steps = steps_of(r.answer);
     let at = r.at;
     tell(out, at, steps, r.stores, r.address);

@@ -1,4 +1,4 @@
--- The six actions and a need, in the code's words: one law for each way out of a primitive. Every law but the first supposes an answer of 0 before.
+-- The five actions and a need, in the code's words: one law for each way out of a primitive. Every law but the first supposes an answer of 0 before.
 use mathlib.Core.Path.{_≡_, refl, _∙_, ap, sym}
 use mathlib.Core.Bool.{Bool, true, false}
 use mathlib.Core.List.{List}
@@ -6,16 +6,17 @@ use Prim.Native.Nat.{ℕ, zero, suc, _+_, _*_, _^_, _≤_, _<_}
 use native.Mathlib.Nat.{mod-eq-of-lt}
 use native.Mathlib.Numerals.{add-one}
 use native.Mathlib.Omega.{arith}
-use lib.Dec.{lit<}
+use lib.Dec.{ltb, lit<}
 use lib.ListN.{length, getD, set}
 use borrow.Author.Tests.{lt-ltb, le-ltb, ne-eqb}
-use Rattle.rules.specs.Machine.{Kind, cpu, vdp, register, size, reach, Mem, cells, put, onward}
-use Rattle.rules.specs.Answers.{Why, Answer, saying, number, answerFor, offGrom, noRoom, outside}
+use Rattle.rules.specs.Machine.{Kind, cpu, vdp, register, grom, size, reach, extent, writable, Mem, area, cells, put, onward}
+use Rattle.rules.specs.Answers.{Why, Answer, saying, number, answerFor, offGrom, noRoom, readOnly, outside}
 use Rattle.rules.specs.Journal.{kindNumber, word, lay}
 use Rattle.rules.specs.Rules.{Rule, _>>=_, got, stopped, perform, exec, after, valued, nextByte, gromByte, here, goto, peek, poke, need}
 use Rattle.rules.proofs.Opcodes.{never-done}
-use Rattle.rules.proofs.Undo.{reach-small}
-use Rattle.machine.specs.Meaning.{outs, Stand, stand, Goes, with}
+use Rattle.machine.specs.Meaning.{outs, Stand, stand, Goes, kindOf, HasCells, reachOf, mayStore, IsNear, with}
+use Rattle.machine.specs.declared.memory.Memory.{Memory}
+use Rattle.machine.specs.declared.memory.Memory.the-variants.{Cpu, Vdp, Register, Grom}
 use Rattle.rules.proofs.Laws.{need-met}
 use Rattle.machine.proofs.Chain.{goes, seq, by-rule, idle}
 
@@ -82,55 +83,92 @@ module _ {pc : ℕ} {z : Answer} {m : Mem} (h : z .number ≡ 0) where
   unfolding outs after valued exec perform
   grom-read {a = a} l e = record { is = rw (h, lt-ltb a (length (m .image)) l, e) }
 
--- ---- loads and stores, over the kind
+-- ---- loads and stores, over the memory
 
-cells-with : (k : Kind) (c j : List ℕ) (u : ℕ) (x : Mem) → cells k (with k c j u x) ≡ c
-cells-with cpu c j u x = refl
-cells-with vdp c j u x = refl
-cells-with register c j u x = refl
+cells-with : (k : Memory) (c j : List ℕ) (u : ℕ) (x : Mem) → cells (kindOf k) (with k c j u x) ≡ c
+cells-with Cpu c j u x = refl
+cells-with Vdp c j u x = refl
+cells-with Register c j u x = refl
+cells-with (Grom w) c j u x = refl
 
-put-with : (k : Kind) (a b : ℕ) (c j : List ℕ) (u : ℕ) (x : Mem) → put k a b (with k c j u x) ≡ with k (set c a b) j u x
-put-with cpu a b c j u x = refl
-put-with vdp a b c j u x = refl
-put-with register a b c j u x = refl
+put-with : (k : Memory) (a b : ℕ) (c j : List ℕ) (u : ℕ) (x : Mem) → put (kindOf k) a b (with k c j u x) ≡ with k (set c a b) j u x
+put-with Cpu a b c j u x = refl
+put-with Vdp a b c j u x = refl
+put-with Register a b c j u x = refl
+put-with (Grom w) a b c j u x = refl
 
--- a cell in reach is there, its address is small, and so is its kind
-pub within : (k : Kind) {a q n : ℕ} → q ≡ reach k → n ≡ size k → a < q → a < n
-within cpu e f h = omega arith
-within vdp e f h = omega arith
-within register e f h = omega arith
+-- what a rule may reach and write is what the code asks for
+reach-with : (k : Memory) (c j : List ℕ) (u : ℕ) (x : Mem) → extent (area (with k c j u x)) (kindOf k) ≡ reachOf k (length c)
+reach-with Cpu c j u x = refl
+reach-with Vdp c j u x = refl
+reach-with Register c j u x = refl
+reach-with (Grom w) c j u x = refl
 
-pub near : (k : Kind) {a q : ℕ} → q ≡ reach k → a < q → a < 16384
-near k e h = omega (arith, reach-small k)
+store-with : (k : Memory) (a : ℕ) (c j : List ℕ) (u : ℕ) (x : Mem) → writable (area (with k c j u x)) (kindOf k) a ≡ mayStore k a
+store-with Cpu a c j u x = refl
+store-with Vdp a c j u x = refl
+store-with Register a c j u x = refl
+store-with (Grom w) a c j u x = refl
 
-pub kind-small : (k : Kind) → kindNumber k < 4
-kind-small cpu = lit< tt
-kind-small vdp = lit< tt
-kind-small register = lit< tt
+-- a cell in reach is there, its address is small where it may be stored into, and so is its kind
+pub within : (k : Memory) {a q n : ℕ} → q ≡ reachOf k n → HasCells k n → a < q → a < n
+within Cpu e f h = omega arith
+within Vdp e f h = omega arith
+within Register e f h = omega arith
+within (Grom w) e f h = omega arith
 
--- of any machine, q being how many cells are in reach
-module _ (k : Kind) {a q pc : ℕ} {z : Answer} {m : Mem} (h : z .number ≡ 0) (r : q ≡ reach k) where
-  pub peek-far : {n : Answer} {v : ℕ} → q ≤ a → n ≡ answerFor (outside k a) → Goes (stand z pc m) (peek k a) v (stand n pc m)
+pub near : (k : Memory) (n : ℕ) {a q : ℕ} → q ≡ reachOf k n → a < q → IsNear k a → a < 65536
+near Cpu n e h i = omega arith
+near Vdp n e h i = omega arith
+near Register n e h i = omega arith
+near (Grom w) n e h i = i
+
+pub kind-small : (k : Memory) → kindNumber (kindOf k) < 8
+kind-small Cpu = lit< tt
+kind-small Vdp = lit< tt
+kind-small Register = lit< tt
+kind-small (Grom w) = lit< tt
+
+-- the tests of a machine that has these cells, and this journal; q is how many are in reach
+module _ (k : Memory) (c j : List ℕ) (u : ℕ) (x : Mem) (a : ℕ) where
+  far : {q : ℕ} → q ≡ reachOf k (length c) → q ≤ a → ltb a (extent (area (with k c j u x)) (kindOf k)) ≡ false
+  far r l = le-ltb a _ (rw (reach-with k c j u x) (omega arith))
+
+  there : {q : ℕ} → q ≡ reachOf k (length c) → a < q → ltb a (extent (area (with k c j u x)) (kindOf k)) ≡ true
+  there r l = lt-ltb a _ (rw (reach-with k c j u x) (omega arith))
+
+  may : {t : Bool} → mayStore k a ≡ t → writable (area (with k c j u x)) (kindOf k) a ≡ t
+  may e = store-with k a c j u x ∙ e
+
+-- and the ways out
+module _ (k : Memory) (c : List ℕ) (x : Mem) {a q pc u : ℕ} {z : Answer} {j : List ℕ} (h : z .number ≡ 0) (r : q ≡ reachOf k (length c)) where
+  pub peek-far : {n : Answer} {v : ℕ} → q ≤ a → n ≡ answerFor (outside (kindOf k) a)
+      → Goes (stand z pc (with k c j u x)) (peek (kindOf k) a) v (stand n pc (with k c j u x))
   unfolding outs after valued exec perform
-  peek-far {v = v} l e = record { is = rw e (ap (valued v) (refusal (outside k a) pc m) ∙ rw (h, le-ltb a (reach k) (omega arith))) }
+  peek-far {v = v} l e = record { is = rw e (ap (valued v) (refusal (outside (kindOf k) a) pc (with k c j u x)) ∙ rw (h, far k c j u x a r l)) }
 
-  pub poke-far : {n : Answer} {b : ℕ} → q ≤ a → n ≡ answerFor (outside k a) → Goes (stand z pc m) (poke k a b) tt (stand n pc m)
-  unfolding outs after exec perform
-  poke-far l e = goes (rw e (refusal (outside k a) pc m ∙ rw (h, le-ltb a (reach k) (omega arith))))
-
-  pub poke-full : {b : ℕ} → a < q → length (m .journal) ≤ m .used → Goes (stand z pc m) (poke k a b) tt (stand (answerFor noRoom) pc m)
-  unfolding outs after exec perform
-  poke-full l f = goes (rw (h, lt-ltb a (reach k) (omega arith), le-ltb (m .used) (length (m .journal)) f))
-
--- of one that has these cells, and this journal
-module _ (k : Kind) (c : List ℕ) (x : Mem) {a q pc u : ℕ} {z : Answer} {j : List ℕ} (h : z .number ≡ 0) (r : q ≡ reach k) where
-  pub peeked : {v : ℕ} → a < q → v ≡ getD c a 0 → Goes (stand z pc (with k c j u x)) (peek k a) v (stand z pc (with k c j u x))
+  pub peeked : {v : ℕ} → a < q → v ≡ getD c a 0 → Goes (stand z pc (with k c j u x)) (peek (kindOf k) a) v (stand z pc (with k c j u x))
   unfolding outs after valued exec perform
-  peeked l e = record { is = rw (h, lt-ltb a (reach k) (omega arith), e, cells-with k c j u x) }
+  peeked l e = record { is = rw (h, there k c j u x a r l, e, cells-with k c j u x) }
 
-  pub poked : {b n w : ℕ} → a < q → u < length j → b < 256 → n ≡ kindNumber k → w ≡ n * 2 ^ 30 + a * 256 + getD c a 0
-      → Goes (stand z pc (with k c j u x)) (poke k a b) tt (stand z pc (with k (set c a b) (set j u w) (u + 1) x))
+  pub poke-far : {n : Answer} {b : ℕ} → q ≤ a → n ≡ answerFor (outside (kindOf k) a)
+      → Goes (stand z pc (with k c j u x)) (poke (kindOf k) a b) tt (stand n pc (with k c j u x))
+  unfolding outs after exec perform
+  poke-far l e = goes (rw e (refusal (outside (kindOf k) a) pc (with k c j u x) ∙ rw (h, far k c j u x a r l)))
+
+  pub poke-barred : {b : ℕ} → a < q → mayStore k a ≡ false
+      → Goes (stand z pc (with k c j u x)) (poke (kindOf k) a b) tt (stand (answerFor readOnly) pc (with k c j u x))
+  unfolding outs after exec perform
+  poke-barred l d = goes (rw (h, there k c j u x a r l, may k c j u x a d))
+
+  pub poke-full : {b : ℕ} → a < q → mayStore k a ≡ true → length j ≤ u
+      → Goes (stand z pc (with k c j u x)) (poke (kindOf k) a b) tt (stand (answerFor noRoom) pc (with k c j u x))
+  unfolding outs after exec perform
+  poke-full l d f = goes (rw (h, there k c j u x a r l, may k c j u x a d, le-ltb u (length j) f))
+
+  pub poked : {b n w : ℕ} → a < q → mayStore k a ≡ true → u < length j → b < 256 → n ≡ kindNumber (kindOf k) → w ≡ n * 2 ^ 29 + a * 256 + getD c a 0
+      → Goes (stand z pc (with k c j u x)) (poke (kindOf k) a b) tt (stand z pc (with k (set c a b) (set j u w) (u + 1) x))
   unfolding outs after exec perform word
-  poked {b = b} l f g d e =
-      goes (rw (h, lt-ltb a (reach k) (omega arith), lt-ltb u (length j) f, mod-eq-of-lt g, e, d, add-one u, cells-with k c j u x)
-      (ap (λ (y : Mem). got tt pc (lay (kindNumber k * 2 ^ 30 + a * 256 + getD c a 0) y)) (sym (put-with k a b c j u x))))
+  poked {b = b} l d f g i e =
+      goes (rw (h, there k c j u x a r l, may k c j u x a d, lt-ltb u (length j) f, mod-eq-of-lt g, e, i, add-one u, cells-with k c j u x)
+      (ap (λ (y : Mem). got tt pc (lay (kindNumber (kindOf k) * 2 ^ 29 + a * 256 + getD c a 0) y)) (sym (put-with k a b c j u x))))

@@ -9,7 +9,7 @@ use native.Mathlib.Omega.{arith}
 use lib.Dec.{ltb}
 use lib.ListN.{length, getD, set}
 use borrow.Author.Tests.{ne-eqb, lt-ltb, le-ltb, ltb-true}
-use Rattle.rules.specs.Machine.{Kind, reach, Mem, mem, put, beside}
+use Rattle.rules.specs.Machine.{_also_, Kind, grom, Area, extent, writable, Mem, mem, put, beside}
 use Rattle.rules.specs.Journal.{kindNumber, markWord, Note, mark, stoodIn, noteOf, note, sound, restore, zeroTop, undoTop, undo}
 use Rattle.rules.specs.Answers.{Answer, saying, answerFor, noRoom}
 use Rattle.rules.specs.Rules.{then}
@@ -27,6 +27,21 @@ denied false h = refl
 pub granted : (b : Bool) → not b ≡ false → b ≡ true
 granted true h = refl
 granted false h = absurd (let z : _≡_ {A = ℕ} 0 1 = cc in omega arith)
+
+-- ---- two tests
+
+pub both-tests : (b : Bool) → b ≡ (b also true)
+unfolding _also_
+both-tests true = refl
+both-tests false = refl
+
+pub first-fails : (a n : ℕ) (b : Bool) → n ≤ a → false ≡ (ltb a n also b)
+unfolding _also_
+first-fails a n b h = rw (le-ltb a n h)
+
+pub second-tells : (a n : ℕ) (b : Bool) → a < n → b ≡ (ltb a n also b)
+unfolding _also_
+second-tells a n b h = rw (lt-ltb a n h)
 
 -- ---- a mark taken
 
@@ -46,36 +61,51 @@ module _ (pc pc₁ d : ℕ) (m : Mem) {z : ℕ} (h : z ≡ 0) where
 
 -- ---- what a word says, by its kind
 
-note-of-kind : (k : Kind) (w n : ℕ) → n ≡ w / 2 ^ 30 → n ≡ kindNumber k → note w ≡ stoodIn k (w % 2 ^ 30)
+note-of-kind : (k : Kind) (w n : ℕ) → n ≡ w / 2 ^ 29 → n ≡ kindNumber k → note w ≡ stoodIn k (w % 2 ^ 29)
 unfolding note
-note-of-kind k w n e f = ap (λ (x : ℕ). noteOf x (w % 2 ^ 30)) (sym e ∙ f) ∙ noteOf-kind k (w % 2 ^ 30)
+note-of-kind k w n e f = ap (λ (x : ℕ). noteOf x (w % 2 ^ 29)) (sym e ∙ f) ∙ noteOf-kind k (w % 2 ^ 29)
 
-note-of-mark : (w n : ℕ) → n ≡ w / 2 ^ 30 → n ≡ 3 → note w ≡ mark (w % 2 ^ 30)
+note-of-mark : (w n : ℕ) → n ≡ w / 2 ^ 29 → n ≡ 3 → note w ≡ mark (w % 2 ^ 29)
 unfolding note
-note-of-mark w n e f = ap (λ (x : ℕ). noteOf x (w % 2 ^ 30)) (sym e ∙ f)
+note-of-mark w n e f = ap (λ (x : ℕ). noteOf x (w % 2 ^ 29)) (sym e ∙ f)
 
 -- whether it is sound
-pub sound-kind : (k : Kind) (w n at : ℕ) → n ≡ w / 2 ^ 30 → n ≡ kindNumber k → at ≡ w % 2 ^ 30 / 256 → ltb at (reach k) ≡ sound (note w)
-sound-kind k w n at e f h = rw (h, note-of-kind k w n e f)
+pub sound-kind : (z : Area) (k : Kind) (w n at : ℕ) → n ≡ w / 2 ^ 29 → n ≡ kindNumber k → at ≡ w % 2 ^ 29 / 256
+    → (ltb at (extent z k) also writable z k at) ≡ sound z (note w)
+sound-kind z k w n at e f h = rw (h, note-of-kind k w n e f)
 
-pub sound-mark : (w n low : ℕ) → n ≡ w / 2 ^ 30 → n ≡ 3 → low ≡ w % 2 ^ 30 → ltb low 65536 ≡ sound (note w)
-sound-mark w n low e f h = rw (h, note-of-mark w n e f)
+pub sound-mark : (z : Area) (w n low : ℕ) → n ≡ w / 2 ^ 29 → n ≡ 3 → low ≡ w % 2 ^ 29 → ltb low 65536 ≡ sound z (note w)
+sound-mark z w n low e f h = rw (h, note-of-mark w n e f)
+
+-- of no kind
+sound-rest : (z : Area) (n low : ℕ) → (n ≡ 0 → ⊥) → (n ≡ 1 → ⊥) → (n ≡ 2 → ⊥) → (n ≡ 3 → ⊥) → (n ≡ 4 → ⊥) → false ≡ sound z (noteOf n low)
+sound-rest z zero low a b c d e = absurd (a refl)
+sound-rest z (suc zero) low a b c d e = absurd (b refl)
+sound-rest z (suc (suc zero)) low a b c d e = absurd (c refl)
+sound-rest z (suc (suc (suc zero))) low a b c d e = absurd (d refl)
+sound-rest z (suc (suc (suc (suc zero)))) low a b c d e = absurd (e refl)
+sound-rest z (suc (suc (suc (suc (suc n))))) low a b c d e = refl
+
+pub sound-none : (z : Area) (w n : ℕ) → n ≡ w / 2 ^ 29 → (n ≡ 0 → ⊥) → (n ≡ 1 → ⊥) → (n ≡ 2 → ⊥) → (n ≡ 3 → ⊥) → (n ≡ 4 → ⊥) → false ≡ sound z (note w)
+unfolding note
+sound-none z w n k a b c d e = rw (← k) (sound-rest z n (w % 2 ^ 29) a b c d e)
 
 -- what it puts back: a byte into one memory, or nothing
-pub restore-kind : (k : Kind) (w n at b : ℕ) (m : Mem) → n ≡ w / 2 ^ 30 → n ≡ kindNumber k → at ≡ w % 2 ^ 30 / 256 → b ≡ w % 2 ^ 30 % 256
+pub restore-kind : (k : Kind) (w n at b : ℕ) (m : Mem) → n ≡ w / 2 ^ 29 → n ≡ kindNumber k → at ≡ w % 2 ^ 29 / 256 → b ≡ w % 2 ^ 29 % 256
     → put k at b m ≡ restore (note w) m
 restore-kind k w n at b m e f h l = rw (h, l, note-of-kind k w n e f)
 
-restore-rest : (n low : ℕ) (m : Mem) → (n ≡ 0 → ⊥) → (n ≡ 1 → ⊥) → (n ≡ 2 → ⊥) → m ≡ restore (noteOf n low) m
-restore-rest zero low m x y z = absurd (x refl)
-restore-rest (suc zero) low m x y z = absurd (y refl)
-restore-rest (suc (suc zero)) low m x y z = absurd (z refl)
-restore-rest (suc (suc (suc zero))) low m x y z = refl
-restore-rest (suc (suc (suc (suc n)))) low m x y z = refl
+restore-rest : (n low : ℕ) (m : Mem) → (n ≡ 0 → ⊥) → (n ≡ 1 → ⊥) → (n ≡ 2 → ⊥) → (n ≡ 4 → ⊥) → m ≡ restore (noteOf n low) m
+restore-rest zero low m x y z t = absurd (x refl)
+restore-rest (suc zero) low m x y z t = absurd (y refl)
+restore-rest (suc (suc zero)) low m x y z t = absurd (z refl)
+restore-rest (suc (suc (suc zero))) low m x y z t = refl
+restore-rest (suc (suc (suc (suc zero)))) low m x y z t = absurd (t refl)
+restore-rest (suc (suc (suc (suc (suc n))))) low m x y z t = refl
 
-pub restore-none : (w n : ℕ) (m : Mem) → n ≡ w / 2 ^ 30 → (n ≡ 0 → ⊥) → (n ≡ 1 → ⊥) → (n ≡ 2 → ⊥) → m ≡ restore (note w) m
+pub restore-none : (w n : ℕ) (m : Mem) → n ≡ w / 2 ^ 29 → (n ≡ 0 → ⊥) → (n ≡ 1 → ⊥) → (n ≡ 2 → ⊥) → (n ≡ 4 → ⊥) → m ≡ restore (note w) m
 unfolding note
-restore-none w n m e x y z = rw (← e) (restore-rest n (w % 2 ^ 30) m x y z)
+restore-none w n m e x y z t = rw (← e) (restore-rest n (w % 2 ^ 29) m x y z t)
 
 -- a byte beyond the end is put nowhere
 pub set-beyond : (l : List ℕ) (a b : ℕ) → length l ≤ a → l ≡ set l a b
@@ -85,9 +115,9 @@ set-beyond (x ∷ l) (suc a) b h = ap (λ (r : List ℕ). x ∷ r) (set-beyond l
 
 -- ---- the top word, and the top n
 
-pub undo-none : (u : ℕ) (i p v g j : List ℕ) → u ≡ 0 → mem i p v g j 0 ≡ undoTop u (mem i p v g j u)
+pub undo-none : (u : ℕ) (m : Mem) → u ≡ 0 → beside (m .journal) 0 m ≡ undoTop u (beside (m .journal) u m)
 unfolding undoTop
-undo-none u i p v g j e = rw e
+undo-none u m e = rw e
 
 pub undone : (u t w : ℕ) (m m′ : Mem) → (u ≡ 0 → ⊥) → t ≡ u - 1 → w ≡ getD (m .journal) t 0
     → m′ ≡ restore (note w) (beside (set (m .journal) t 0) t m) → m′ ≡ undoTop u m
@@ -131,61 +161,62 @@ unfolding higher
 higher-further d (found n pc) = let z : d + suc n ≡ d + 1 + n = omega arith in ap (λ (k : ℕ). found k pc) z
 higher-further d lost = refl
 
-pub scan-start : (u : ℕ) (j : List ℕ) → scan u j ≡ higher (u - u) (scan u j)
-scan-start u j = rw (sub-self u) (higher-none (scan u j))
+pub scan-start : (z : Area) (u : ℕ) (j : List ℕ) → scan z u j ≡ higher (u - u) (scan z u j)
+scan-start z u j = rw (sub-self u) (higher-none (scan z u j))
 
-scan-turn : (u : ℕ) (j : List ℕ) → (u ≡ 0 → ⊥) → scan u j ≡ seen (note (getD j (u - 1) 0)) (scan (u - 1) j)
+scan-turn : (z : Area) (u : ℕ) (j : List ℕ) → (u ≡ 0 → ⊥) → scan z u j ≡ seen z (note (getD j (u - 1) 0)) (scan z (u - 1) j)
 unfolding scan
-scan-turn zero j h = absurd (h refl)
-scan-turn (suc u) j h =
+scan-turn z zero j h = absurd (h refl)
+scan-turn z (suc u) j h =
     let s : suc u - 1 ≡ u = omega arith in
     rw s
 
 -- a word that is not sound ends it; a sound one is a mark, or is passed over
-seen-bad : (x : Note) (f : Find) → sound x ≡ false → seen x f ≡ lost
-seen-bad x f h = rw h
+seen-bad : (z : Area) (x : Note) (f : Find) → sound z x ≡ false → seen z x f ≡ lost
+seen-bad z x f h = rw h
 
-seen-sound : (x : Note) (f : Find) → sound x ≡ true → seen x f ≡ passed x f
-seen-sound x f h = rw h
+seen-sound : (z : Area) (x : Note) (f : Find) → sound z x ≡ true → seen z x f ≡ passed x f
+seen-sound z x f h = rw h
 
-passed-cell : (n low : ℕ) (f : Find) → (n ≡ 3 → ⊥) → sound (noteOf n low) ≡ true → passed (noteOf n low) f ≡ further f
-passed-cell zero low f x h = refl
-passed-cell (suc zero) low f x h = refl
-passed-cell (suc (suc zero)) low f x h = refl
-passed-cell (suc (suc (suc zero))) low f x h = absurd (x refl)
-passed-cell (suc (suc (suc (suc n)))) low f x h = absurd (false-true h)
+passed-cell : (z : Area) (n low : ℕ) (f : Find) → (n ≡ 3 → ⊥) → sound z (noteOf n low) ≡ true → passed (noteOf n low) f ≡ further f
+passed-cell z zero low f x h = refl
+passed-cell z (suc zero) low f x h = refl
+passed-cell z (suc (suc zero)) low f x h = refl
+passed-cell z (suc (suc (suc zero))) low f x h = absurd (x refl)
+passed-cell z (suc (suc (suc (suc zero)))) low f x h = refl
+passed-cell z (suc (suc (suc (suc (suc n))))) low f x h = absurd (false-true h)
 
 -- the search stands at u, with `all` words to search, at whose top is the word w: a turn that goes on, and the three that end it
-module _ (all u : ℕ) (j : List ℕ) (f : Find) (e : f ≡ higher (all - u) (scan u j)) where
-  turned : (w : ℕ) → (u ≡ 0 → ⊥) → w ≡ getD j (u - 1) 0 → f ≡ higher (all - u) (seen (note w) (scan (u - 1) j))
-  turned w h q = e ∙ ap (higher (all - u)) (scan-turn u j h ∙ ap (λ (x : ℕ). seen (note x) (scan (u - 1) j)) (sym q))
+module _ (z : Area) (all u : ℕ) (j : List ℕ) (f : Find) (e : f ≡ higher (all - u) (scan z u j)) where
+  turned : (w : ℕ) → (u ≡ 0 → ⊥) → w ≡ getD j (u - 1) 0 → f ≡ higher (all - u) (seen z (note w) (scan z (u - 1) j))
+  turned w h q = e ∙ ap (higher (all - u)) (scan-turn z u j h ∙ ap (λ (x : ℕ). seen z (note x) (scan z (u - 1) j)) (sym q))
 
-  pub scan-on : (w n : ℕ) → (u ≡ 0 → ⊥) → u ≤ all → w ≡ getD j (u - 1) 0 → sound (note w) ≡ true → n ≡ w / 2 ^ 30 → (n ≡ 3 → ⊥)
-      → f ≡ higher (all - (u - 1)) (scan (u - 1) j)
+  pub scan-on : (w n : ℕ) → (u ≡ 0 → ⊥) → u ≤ all → w ≡ getD j (u - 1) 0 → sound z (note w) ≡ true → n ≡ w / 2 ^ 29 → (n ≡ 3 → ⊥)
+      → f ≡ higher (all - (u - 1)) (scan z (u - 1) j)
   unfolding note
   scan-on w n h l q s k x =
-      let z : all - u + 1 ≡ all - (u - 1) = omega arith in
-      let below : Find = scan (u - 1) j in
+      let more : all - u + 1 ≡ all - (u - 1) = omega arith in
+      let below : Find = scan z (u - 1) j in
       turned w h q
-      ∙ ap (higher (all - u)) (seen-sound (note w) below s ∙ passed-cell (w / 2 ^ 30) (w % 2 ^ 30) below (λ y. x (k ∙ y)) s)
-      ∙ higher-further (all - u) below ∙ ap (λ (d : ℕ). higher d below) z
+      ∙ ap (higher (all - u)) (seen-sound z (note w) below s ∙ passed-cell z (w / 2 ^ 29) (w % 2 ^ 29) below (λ y. x (k ∙ y)) s)
+      ∙ higher-further (all - u) below ∙ ap (λ (d : ℕ). higher d below) more
 
-  pub scan-mark : (w n d : ℕ) → (u ≡ 0 → ⊥) → u ≤ all → w ≡ getD j (u - 1) 0 → sound (note w) ≡ true → n ≡ w / 2 ^ 30 → n ≡ 3 → d ≡ all - (u - 1)
+  pub scan-mark : (w n d : ℕ) → (u ≡ 0 → ⊥) → u ≤ all → w ≡ getD j (u - 1) 0 → sound z (note w) ≡ true → n ≡ w / 2 ^ 29 → n ≡ 3 → d ≡ all - (u - 1)
       → foundAt d (w % 65536) ≡ f
   unfolding higher foundAt
   scan-mark w n d h l q s k x y =
       let ne : d ≡ 0 → ⊥ = λ v. omega arith in
-      let z : all - u + 1 ≡ d = omega arith in
-      let small : w % 2 ^ 30 < 65536 = ltb-true (w % 2 ^ 30) 65536 (sound-mark w n (w % 2 ^ 30) k x refl ∙ s) in
-      let low : w % 2 ^ 30 ≡ w % 65536 = omega arith in
-      let below : Find = scan (u - 1) j in
+      let more : all - u + 1 ≡ d = omega arith in
+      let small : w % 2 ^ 29 < 65536 = ltb-true (w % 2 ^ 29) 65536 (sound-mark z w n (w % 2 ^ 29) k x refl ∙ s) in
+      let low : w % 2 ^ 29 ≡ w % 65536 = omega arith in
+      let below : Find = scan z (u - 1) j in
       rw (ne-eqb d 0 ne)
-      (sym (turned w h q ∙ ap (higher (all - u)) (seen-sound (note w) below s ∙ ap (λ (v : Note). passed v below) (note-of-mark w n k x)) ∙ ap₂ found z low))
+      (sym (turned w h q ∙ ap (higher (all - u)) (seen-sound z (note w) below s ∙ ap (λ (v : Note). passed v below) (note-of-mark w n k x)) ∙ ap₂ found more low))
 
-  pub scan-bad : (w : ℕ) → (u ≡ 0 → ⊥) → w ≡ getD j (u - 1) 0 → sound (note w) ≡ false → foundAt 0 0 ≡ f
+  pub scan-bad : (w : ℕ) → (u ≡ 0 → ⊥) → w ≡ getD j (u - 1) 0 → sound z (note w) ≡ false → foundAt 0 0 ≡ f
   unfolding higher foundAt
-  scan-bad w h q s = sym (turned w h q ∙ ap (higher (all - u)) (seen-bad (note w) (scan (u - 1) j) s))
+  scan-bad w h q s = sym (turned w h q ∙ ap (higher (all - u)) (seen-bad z (note w) (scan z (u - 1) j) s))
 
   pub scan-end : u ≡ 0 → foundAt 0 0 ≡ f
   unfolding higher foundAt scan
-  scan-end h = sym (e ∙ ap (λ (n : ℕ). higher (all - u) (scan n j)) h)
+  scan-end h = sym (e ∙ ap (λ (n : ℕ). higher (all - u) (scan z n j)) h)

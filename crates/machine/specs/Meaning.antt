@@ -1,22 +1,23 @@
 -- What the code's values say, in the words of the rules.
 use mathlib.Core.Path.{_≡_}
 use mathlib.Core.List.{List}
-use Prim.Native.Nat.{ℕ, _+_}
+use mathlib.Core.Bool.{Bool, true}
+use Prim.Native.Nat.{ℕ, _+_, _/_, _<_}
 use lib.Dec.{eqb}
 use lib.ListN.{length, set}
 use denote.Ref.{RefT, now}
 use denote.Triple.Both.{Both}
-use Rattle.rules.specs.Machine.{pick, Kind, cpu, vdp, register, upon, size, Mem, mem, beside}
+use Rattle.rules.specs.Machine.{pick, bit, Kind, cpu, vdp, register, grom, upon, group, size, reach, areaOf, Mem, mem}
 use Rattle.rules.specs.Rules.{Rule, Deed, Out, got, stopped, then, after, valued, peek, poke}
 use Rattle.rules.specs.Answers as answers
 use Rattle.rules.specs.Answers.{Answer, saying}
 use Rattle.rules.specs.Calls as calls
 use Rattle.machine.specs.declared.state.Now.{Now}
 use Rattle.machine.specs.declared.answers.Why.{Why}
-use Rattle.machine.specs.declared.answers.Why.the-variants.{Ended, NoSuch, NeedsHost, OffCpu, OffVdp, OffGrom, OffStack, TooLong, NoRoom, WrongLength, NoRecord, OffRegister, TooCoarse}
+use Rattle.machine.specs.declared.answers.Why.the-variants.{Ended, NoSuch, NeedsHost, OffCpu, OffVdp, OffGrom, OffStack, TooLong, NoRoom, WrongLength, NoRecord, OffRegister, TooCoarse, ReadOnly}
 use Rattle.machine.specs.declared.journal.Mark.{Mark}
 use Rattle.machine.specs.declared.memory.Memory.{Memory}
-use Rattle.machine.specs.declared.memory.Memory.the-variants.{Cpu, Vdp, Register}
+use Rattle.machine.specs.declared.memory.Memory.the-variants.{Cpu, Vdp, Register, Grom}
 
 -- ---- the refusals
 
@@ -34,6 +35,7 @@ whyOf WrongLength = answers.wrongLength
 whyOf NoRecord = answers.noRecord
 whyOf OffRegister = answers.offRegister
 whyOf TooCoarse = answers.tooCoarse
+whyOf ReadOnly = answers.readOnly
 
 -- ---- the state, with the memories beside it, as a machine of the rules
 
@@ -56,9 +58,9 @@ outOf s = outs (s .answer) (s .pc) (s .mem)
 abbrev pub answerOf : Now → Answer
 answerOf n = saying (n .answer) (n .address)
 
--- the state beside image, pad, VDP RAM, registers and journal
-abbrev pub standing : List ℕ → List ℕ → List ℕ → List ℕ → List ℕ → Now → Stand
-standing i p v g j n = stand (answerOf n) (n .pc) (mem i p v g j (n .used))
+-- the state beside image, writable groups, pad, VDP RAM, registers and journal
+abbrev pub standing : List ℕ → ℕ → List ℕ → List ℕ → List ℕ → List ℕ → Now → Stand
+standing i w p v g j n = stand (answerOf n) (n .pc) (mem i w p v g j (n .used))
 
 -- from s the rule goes to t, and gives a
 pub record Goes {A : Type 0} (s : Stand) (r : Rule A) (a : A) (t : Stand) : Type 0 where
@@ -95,8 +97,14 @@ pub data Part : Type 0 where
   unseen : Part
   lent : List ℕ → List ℕ → Part
 
+-- the writable groups, as a function has them: named to it; or out of its sight, and so any
+pub data Naming : Type 0 where
+  unnamed : Naming
+  named : ℕ → Naming
+
 pub record Parts : Type 0 where
   pub image : Part
+  pub groups : Naming
   pub pad : Part
   pub vram : Part
   pub regs : Part
@@ -104,19 +112,19 @@ pub record Parts : Type 0 where
 
 -- the parts that a function is lent, by what they were and what they are: for a loop, whose invariant has the lists themselves
 abbrev pub imageFrom : List ℕ → List ℕ → Parts → Parts
-imageFrom was is l = record { image = lent was is; pad = l .pad; vram = l .vram; regs = l .regs; journal = l .journal }
+imageFrom was is l = record { image = lent was is; groups = l .groups; pad = l .pad; vram = l .vram; regs = l .regs; journal = l .journal }
 
 abbrev pub padFrom : List ℕ → List ℕ → Parts → Parts
-padFrom was is l = record { image = l .image; pad = lent was is; vram = l .vram; regs = l .regs; journal = l .journal }
+padFrom was is l = record { image = l .image; groups = l .groups; pad = lent was is; vram = l .vram; regs = l .regs; journal = l .journal }
 
 abbrev pub vramFrom : List ℕ → List ℕ → Parts → Parts
-vramFrom was is l = record { image = l .image; pad = l .pad; vram = lent was is; regs = l .regs; journal = l .journal }
+vramFrom was is l = record { image = l .image; groups = l .groups; pad = l .pad; vram = lent was is; regs = l .regs; journal = l .journal }
 
 abbrev pub regsFrom : List ℕ → List ℕ → Parts → Parts
-regsFrom was is l = record { image = l .image; pad = l .pad; vram = l .vram; regs = lent was is; journal = l .journal }
+regsFrom was is l = record { image = l .image; groups = l .groups; pad = l .pad; vram = l .vram; regs = lent was is; journal = l .journal }
 
 abbrev pub journalFrom : List ℕ → List ℕ → Parts → Parts
-journalFrom was is l = record { image = l .image; pad = l .pad; vram = l .vram; regs = l .regs; journal = lent was is }
+journalFrom was is l = record { image = l .image; groups = l .groups; pad = l .pad; vram = l .vram; regs = l .regs; journal = lent was is }
 
 -- and as a contract has them: `Pad pad & Journal journal`
 abbrev pub Image : Lent → Parts → Parts
@@ -134,6 +142,9 @@ Regs s l = regsFrom (now (s .entry)) (now (s .exit)) l
 abbrev pub Journal : Lent → Parts → Parts
 Journal s l = journalFrom (now (s .entry)) (now (s .exit)) l
 
+abbrev pub Groups : ℕ → Parts → Parts
+Groups w l = record { image = l .image; groups = named w; pad = l .pad; vram = l .vram; regs = l .regs; journal = l .journal }
+
 abbrev pub Nothing : Parts → Parts
 Nothing l = l
 
@@ -142,7 +153,7 @@ abbrev pub _&_ : (Parts → Parts) → (Parts → Parts) → Parts → Parts
 _&_ f g l = f (g l)
 
 abbrev pub unseenAll : Parts
-unseenAll = record { image = unseen; pad = unseen; vram = unseen; regs = unseen; journal = unseen }
+unseenAll = record { image = unseen; groups = unnamed; pad = unseen; vram = unseen; regs = unseen; journal = unseen }
 
 -- what a function does not see of a part: the list, where it is not lent
 abbrev pub Unseen : Part → Type 0
@@ -157,9 +168,18 @@ abbrev pub after′ : (q : Part) → Unseen q → List ℕ
 after′ unseen l = l
 after′ (lent was is) _ = is
 
--- the rest of the machine: every part that is not lent
+abbrev pub Unnamed : Naming → Type 0
+Unnamed unnamed = ℕ
+Unnamed (named w) = Unit {0}
+
+abbrev pub groupsIn : (q : Naming) → Unnamed q → ℕ
+groupsIn unnamed w = w
+groupsIn (named w) _ = w
+
+-- the rest of the machine: every part that is not lent, and the groups where they are not named
 pub record Rest (q : Parts) : Type 0 where
   pub image : Unseen (q .image)
+  pub groups : Unnamed (q .groups)
   pub pad : Unseen (q .pad)
   pub vram : Unseen (q .vram)
   pub regs : Unseen (q .regs)
@@ -168,11 +188,11 @@ pub record Rest (q : Parts) : Type 0 where
 -- the memories before and after, with so many journal words used
 abbrev pub memBefore : (q : Parts) → Rest q → ℕ → Mem
 memBefore q w u =
-    mem (before (q .image) (w .image)) (before (q .pad) (w .pad)) (before (q .vram) (w .vram)) (before (q .regs) (w .regs)) (before (q .journal) (w .journal)) u
+    mem (before (q .image) (w .image)) (groupsIn (q .groups) (w .groups)) (before (q .pad) (w .pad)) (before (q .vram) (w .vram)) (before (q .regs) (w .regs)) (before (q .journal) (w .journal)) u
 
 abbrev pub memAfter : (q : Parts) → Rest q → ℕ → Mem
 memAfter q w u =
-    mem (after′ (q .image) (w .image)) (after′ (q .pad) (w .pad)) (after′ (q .vram) (w .vram)) (after′ (q .regs) (w .regs)) (after′ (q .journal) (w .journal)) u
+    mem (after′ (q .image) (w .image)) (groupsIn (q .groups) (w .groups)) (after′ (q .pad) (w .pad)) (after′ (q .vram) (w .vram)) (after′ (q .regs) (w .regs)) (after′ (q .journal) (w .journal)) u
 
 abbrev pub start : (q : Parts) → Rest q → Now → Stand
 start q w m = stand (answerOf m) (m .pc) (memBefore q w (m .used))
@@ -216,25 +236,63 @@ abbrev pub kindOf : Memory → Kind
 kindOf Cpu = cpu
 kindOf Vdp = vdp
 kindOf Register = register
+kindOf (Grom w) = grom
+
+-- how many cells it has: of the image, any number
+abbrev pub HasCells : Memory → ℕ → Type 0
+HasCells Cpu n = n ≡ size cpu
+HasCells Vdp n = n ≡ size vdp
+HasCells Register n = n ≡ size register
+HasCells (Grom w) n = Unit {0}
 
 abbrev pub IsOf : Memory → RefT (List ℕ) → Type 0
-IsOf k s = length (now s) ≡ size (kindOf k)
+IsOf k s = HasCells k (length (now s))
+
+-- how many of its n cells a program may reach
+abbrev pub reachOf : Memory → ℕ → ℕ
+reachOf Cpu n = reach cpu
+reachOf Vdp n = reach vdp
+reachOf Register n = reach register
+reachOf (Grom w) n = n
+
+-- whether it may store into one
+abbrev pub mayStore : Memory → ℕ → Bool
+mayStore Cpu a = true
+mayStore Vdp a = true
+mayStore Register a = true
+mayStore (Grom w) a = bit (a / group) w
+
+-- an address of 16 bits, where it is the image's
+abbrev pub IsNear : Memory → ℕ → Type 0
+IsNear Cpu a = Unit {0}
+IsNear Vdp a = Unit {0}
+IsNear Register a = Unit {0}
+IsNear (Grom w) a = a < 65536
+
+-- the groups that it names, or those of the machine
+abbrev pub groupsOf : Memory → Mem → ℕ
+groupsOf Cpu m = m .groups
+groupsOf Vdp m = m .groups
+groupsOf Register m = m .groups
+groupsOf (Grom w) m = w
 
 -- a machine with other cells of one kind, and the journal and the used words beside them
-abbrev pub with : Kind → List ℕ → List ℕ → ℕ → Mem → Mem
-with k c j u m = mem (m .image) (upon k c (m .pad) (m .pad)) (upon k (m .vram) c (m .vram)) (upon k (m .regs) (m .regs) c) j u
+abbrev pub with : Memory → List ℕ → List ℕ → ℕ → Mem → Mem
+with k c j u m =
+    mem (upon (kindOf k) (m .image) (m .image) (m .image) c) (groupsOf k m) (upon (kindOf k) c (m .pad) (m .pad) (m .pad))
+    (upon (kindOf k) (m .vram) c (m .vram) (m .vram)) (upon (kindOf k) (m .regs) (m .regs) c (m .regs)) j u
 
 -- a byte is loaded from one of its cells: in any machine that has these
 abbrev pub Loads : Memory → ℕ → Lent → Now → Now → Type 0
 Loads k a s m n =
-    (x : Mem) → Goes (stand (answerOf m) (m .pc) (with (kindOf k) (now (s .entry)) (x .journal) (m .used) x)) (peek (kindOf k) a) (n .byte)
-    (stand (answerOf n) (n .pc) (with (kindOf k) (now (s .entry)) (x .journal) (n .used) x))
+    (x : Mem) → Goes (stand (answerOf m) (m .pc) (with k (now (s .entry)) (x .journal) (m .used) x)) (peek (kindOf k) a) (n .byte)
+    (stand (answerOf n) (n .pc) (with k (now (s .entry)) (x .journal) (n .used) x))
 
 -- a byte is stored into one
 abbrev pub Stores : Memory → ℕ → ℕ → Lent → Lent → Now → Now → Type 0
 Stores k a b s j m n =
-    (x : Mem) → Goes (stand (answerOf m) (m .pc) (with (kindOf k) (now (s .entry)) (now (j .entry)) (m .used) x)) (poke (kindOf k) a b) tt
-    (stand (answerOf n) (n .pc) (with (kindOf k) (now (s .exit)) (now (j .exit)) (n .used) x))
+    (x : Mem) → Goes (stand (answerOf m) (m .pc) (with k (now (s .entry)) (now (j .entry)) (m .used) x)) (poke (kindOf k) a b) tt
+    (stand (answerOf n) (n .pc) (with k (now (s .exit)) (now (j .exit)) (n .used) x))
 
 -- a byte is put into a cell, if there is one
 abbrev pub Puts : ℕ → ℕ → Lent → Type 0
@@ -249,6 +307,6 @@ foundAt n pc = pick (eqb n 0) calls.lost (calls.found n pc)
 abbrev pub found : Mark → calls.Find
 found r = foundAt (r .words) (r .pc)
 
--- it is found among the used words of a journal, or its address is 0
-abbrev pub Finds : Lent → ℕ → Mark → Type 0
-Finds j u r = (found r ≡ calls.scan u (now (j .entry))) × (r .words ≡ 0 → r .pc ≡ 0)
+-- it is found among the used words of a journal, by an image of n bytes and its writable groups; or its address is 0
+abbrev pub Finds : ℕ → ℕ → Lent → ℕ → Mark → Type 0
+Finds n w j u r = (found r ≡ calls.scan (areaOf n w) u (now (j .entry))) × (r .words ≡ 0 → r .pc ≡ 0)

@@ -31,6 +31,8 @@ pub enum Why {
     OffRegister,
     // 02, item 3: "granularity above 7"
     TooCoarse,
+    // 02, item 9: "group not writable"
+    ReadOnly,
 }
 
 pub fn number(why: Why) -> u8
@@ -50,6 +52,7 @@ pub fn number(why: Why) -> u8
         Why::NoRecord => 12,
         Why::OffRegister => 13,
         Why::TooCoarse => 23,
+        Why::ReadOnly => 24,
     }
 }
 
@@ -71,5 +74,6 @@ pub fn address(why: Why) -> u16
         Why::NoRecord => 0,
         Why::OffRegister => 0,
         Why::TooCoarse => 0,
+        Why::ReadOnly => 0,
     }
 }

@@ -1,9 +1,14 @@
-// Reading the image: at pc, which moves on, and at an address.
+// The image: read at pc, which moves on, and at an address; and a journalled store into a writable group.
 use crate::answers::Why;
+use crate::memory;
+use crate::memory::Memory;
 use crate::state;
 use crate::state::Now;
-ghost use Rattle.rules.specs.Rules.{nextByte, nextWord, gromByte};
-ghost use Rattle.machine.specs.Meaning.{Gives, Image};
+ghost use mathlib.Core.Path.{_≡_};
+ghost use Prim.Native.Nat.{_/_};
+ghost use Rattle.rules.specs.Machine.{bit, grom, group};
+ghost use Rattle.rules.specs.Rules.{nextByte, nextWord, gromByte, poke};
+ghost use Rattle.machine.specs.Meaning.{_&_, Does, Gives, Groups, Image, Journal};
 
 pub fn next_byte(image: &[u8], m: Now) -> Now
     ensures { λ r. ⌜ Gives (r .byte) nextByte (Image image) m r ⌝ }
@@ -38,4 +43,22 @@ pub fn next_word(image: &[u8], m: Now) -> Now
     let high = next_byte(image, m);
     let low = next_byte(image, high);
     state::give_word(low, number::words::word_of(high.byte, low.byte))
+}
+
+// Whether an address is in a group whose bit is set: there are eight.
+pub fn writable(groups: u8, at: usize) -> bool
+    ensures { λ r. ⌜ r ≡ bit (at / group) groups ⌝ }
+{
+    let g = at / 8192;
+    if 8 <= g {
+        return false;
+    }
+    number::bits::bit(g as u32, groups)
+}
+
+pub fn poke_grom(image: &mut [u8], journal: &mut [u32], m: Now, groups: u8, a: u16, b: u8) -> Now
+    ensures { λ r. ⌜ Does (poke grom a b) (Image image & Groups groups & Journal journal) m r ⌝ }
+{
+    let at = a as usize;
+    memory::store(image, journal, m, Memory::Grom(groups), at, b)
 }

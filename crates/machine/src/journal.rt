@@ -1,14 +1,16 @@
 // The journal: a mark taken, words put back from the top, and the newest mark found.
 use crate::answers::Why;
 use crate::cells;
+use crate::grom;
 use crate::state;
 use crate::state::Now;
 ghost use mathlib.Core.Path.{_≡_};
 ghost use Prim.Native.Nat.{ℕ, _≤_};
 ghost use lib.ListN.{length};
+ghost use Rattle.rules.specs.Machine.{areaOf};
 ghost use Rattle.rules.specs.Journal as words;
 ghost use Rattle.rules.specs.Journal.{note, restore, undoTop};
-ghost use Rattle.machine.specs.Meaning.{_&_, Pad, Vram, Regs, Journal, Marks, Puts, Became, Finds};
+ghost use Rattle.machine.specs.Meaning.{_&_, Image, Pad, Vram, Regs, Journal, Marks, Puts, Became, Finds};
 
 // The mark word of a step that began at `pc`.
 pub fn take_mark(journal: &mut [u32], m: Now, pc: u16) -> Now
@@ -36,8 +38,8 @@ fn put(memory: &mut [u8], at: usize, b: u8)
 }
 
 // What a word says, put back into its cell.
-fn put_back(pad: &mut [u8], vram: &mut [u8], regs: &mut [u8], w: u32)
-    ensures { λ _. ⌜ ((u : ℕ) → Became (restore (note w)) (Pad pad & Vram vram & Regs regs) u u) ⌝ }
+fn put_back(image: &mut [u8], pad: &mut [u8], vram: &mut [u8], regs: &mut [u8], w: u32)
+    ensures { λ _. ⌜ ((u : ℕ) → Became (restore (note w)) (Image image & Pad pad & Vram vram & Regs regs) u u) ⌝ }
 {
     let kind = number::words::kind_of(w);
     let cell = number::words::cell_of(w);
@@ -55,10 +57,15 @@ fn put_back(pad: &mut [u8], vram: &mut [u8], regs: &mut [u8], w: u32)
         put(regs, at, b);
         return;
     }
+    if kind == 4 {
+        put(image, at, b);
+        return;
+    }
 }
 
 // The top word put back, and 0 left in it.
 fn undo_top(
+    image: &mut [u8],
     pad: &mut [u8],
     vram: &mut [u8],
     regs: &mut [u8],
@@ -66,7 +73,7 @@ fn undo_top(
     used: usize,
 ) -> usize
     requires { ⌜ used ≤ length (now journal) ⌝ }
-    ensures { λ r. ⌜ Became (undoTop used) (Pad pad & Vram vram & Regs regs & Journal journal) used r ⌝ }
+    ensures { λ r. ⌜ Became (undoTop used) (Image image & Pad pad & Vram vram & Regs regs & Journal journal) used r ⌝ }
 {
     if used == 0 {
         return 0;
@@ -74,12 +81,13 @@ fn undo_top(
     let top = used - 1;
     let w = journal[top];
     journal[top] = 0;
-    put_back(pad, vram, regs, w);
+    put_back(image, pad, vram, regs, w);
     top
 }
 
 // The top n words, from the top down.
 pub fn undo(
+    image: &mut [u8],
     pad: &mut [u8],
     vram: &mut [u8],
     regs: &mut [u8],
@@ -88,20 +96,20 @@ pub fn undo(
     n: usize,
 ) -> usize
     requires { ⌜ used ≤ length (now journal) ⌝ }
-    ensures { λ r. ⌜ Became (words.undo n) (Pad pad & Vram vram & Regs regs & Journal journal) used r ⌝ }
+    ensures { λ r. ⌜ Became (words.undo n) (Image image & Pad pad & Vram vram & Regs regs & Journal journal) used r ⌝ }
 {
     let mut u = used;
     let mut done: usize = 0;
     while done < n {
-        u = undo_top(pad, vram, regs, journal, u);
+        u = undo_top(image, pad, vram, regs, journal, u);
         done += 1;
     }
     u
 }
 
-// A mark without a surplus bit, or a store's word whose address names a cell.
-fn sound(w: u32) -> bool
-    ensures { λ r. ⌜ r ≡ words.sound (note w) ⌝ }
+// A mark without a surplus bit, or a store's word whose address names a cell: of an image of `size` bytes, one in a writable group.
+fn sound(w: u32, size: usize, groups: u8) -> bool
+    ensures { λ r. ⌜ r ≡ words.sound (areaOf size groups) (note w) ⌝ }
 {
     let kind = number::words::kind_of(w);
     let cell = number::words::cell_of(w);
@@ -115,7 +123,16 @@ fn sound(w: u32) -> bool
     if kind == 2 {
         return at < cells::REGISTERS;
     }
-    number::words::under_kind(w) < 65536
+    if kind == 3 {
+        return number::words::under_kind(w) < 65536;
+    }
+    if kind != 4 {
+        return false;
+    }
+    if size <= at {
+        return false;
+    }
+    grom::writable(groups, at)
 }
 
 // The newest mark: how many words it and those above it are, 0 where there is no sound record, and its address.
@@ -124,15 +141,15 @@ pub struct Mark {
     pub pc: u16,
 }
 
-pub fn find(journal: &[u32], used: usize) -> Mark
+pub fn find(journal: &[u32], used: usize, size: usize, groups: u8) -> Mark
     requires { ⌜ used ≤ length (now journal) ⌝ }
-    ensures { λ r. ⌜ Finds journal used r ⌝ }
+    ensures { λ r. ⌜ Finds size groups journal used r ⌝ }
 {
     let mut u = used;
     while u != 0 {
         let top = u - 1;
         let w = journal[top];
-        let fine = sound(w);
+        let fine = sound(w, size, groups);
         if !fine {
             return Mark { words: 0, pc: 0 };
         }

@@ -1,29 +1,44 @@
-// A load and a journalled store, of whichever memory: the pad, VDP RAM or the registers.
+// A load and a journalled store, of whichever memory: the pad, VDP RAM, the registers or the image.
 use crate::answers::Why;
 use crate::cells;
+use crate::grom;
 use crate::state;
 use crate::state::Now;
 ghost use mathlib.Core.Path.{_≡_};
-ghost use Rattle.rules.specs.Machine;
 ghost use Rattle.rules.specs.Answers;
 ghost use Rattle.rules.specs.Answers.{answerFor};
 ghost use Rattle.rules.specs.Journal.{kindNumber};
-ghost use Rattle.machine.specs.Meaning.{whyOf, kindOf, IsOf, Loads, Stores};
+ghost use Rattle.machine.specs.Meaning.{whyOf, kindOf, reachOf, mayStore, IsNear, IsOf, Loads, Stores};
 
 pub enum Memory {
     Cpu,
     Vdp,
     Register,
+    // with its writable groups
+    Grom(u8),
 }
 
-// How many of its cells a program may reach.
-fn reach(k: Memory) -> usize
-    ensures { λ r. ⌜ r ≡ Machine.reach (kindOf k) ⌝ }
+// How many of its n cells a program may reach.
+fn reach(k: Memory, n: usize) -> usize
+    ensures { λ r. ⌜ r ≡ reachOf k n ⌝ }
 {
     match k {
         Memory::Cpu => cells::PAD_REACH,
         Memory::Vdp => cells::VDP_REACH,
         Memory::Register => cells::REGISTERS,
+        Memory::Grom(_) => n,
+    }
+}
+
+// Whether it may store into one of them.
+fn may_store(k: Memory, at: usize) -> bool
+    ensures { λ r. ⌜ r ≡ mayStore k at ⌝ }
+{
+    match k {
+        Memory::Cpu => true,
+        Memory::Vdp => true,
+        Memory::Register => true,
+        Memory::Grom(w) => grom::writable(w, at),
     }
 }
 
@@ -36,6 +51,7 @@ fn outside(k: Memory, at: usize) -> Why
         Memory::Cpu => Why::OffCpu(a),
         Memory::Vdp => Why::OffVdp(a),
         Memory::Register => Why::OffRegister,
+        Memory::Grom(_) => Why::OffGrom(a),
     }
 }
 
@@ -47,6 +63,7 @@ fn kind(k: Memory) -> u32
         Memory::Cpu => 0,
         Memory::Vdp => 1,
         Memory::Register => 2,
+        Memory::Grom(_) => 4,
     }
 }
 
@@ -57,25 +74,29 @@ pub fn load(memory: &[u8], m: Now, k: Memory, at: usize) -> Now
     if m.answer != 0 {
         return m;
     }
-    if reach(k) <= at {
+    if reach(k, memory.len()) <= at {
         return state::refused(m, outside(k, at));
     }
     state::read(m, m.pc, memory[at])
 }
 
-// The range is tested before the room.
+// The range is tested before the group, and both before the room.
 pub fn store(memory: &mut [u8], journal: &mut [u32], m: Now, k: Memory, at: usize, b: u8) -> Now
-    requires { ⌜ IsOf k memory ⌝ }
+    requires { ⌜ IsOf k memory × IsNear k at ⌝ }
     ensures { λ r. ⌜ Stores k at b memory journal m r ⌝ }
 {
     let used = m.used;
-    let limit = reach(k);
+    let limit = reach(k, memory.len());
     let why = outside(k, at);
     if m.answer != 0 {
         return m;
     }
     if limit <= at {
         return state::refused(m, why);
+    }
+    let allowed = may_store(k, at);
+    if !allowed {
+        return state::refused(m, Why::ReadOnly);
     }
     if journal.len() <= used {
         return state::refused(m, Why::NoRoom);

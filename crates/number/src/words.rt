@@ -25,43 +25,43 @@ pub fn low_of(w: u16) -> u8
 
 // The journal word of a store.
 pub fn pack(kind: u32, at: u32, b: u8) -> u32
-    requires { ⌜ (kind < 4) × (at < 2 ^ 22) ⌝ }
-    ensures { λ r. ⌜ r ≡ kind * 2 ^ 30 + at * 256 + b ⌝ }
+    requires { ⌜ (kind < 8) × (at < 2 ^ 21) ⌝ }
+    ensures { λ r. ⌜ r ≡ kind * 2 ^ 29 + at * 256 + b ⌝ }
 {
-    (kind << 30) | ((at << 8) | (b as u32))
+    (kind << 29) | ((at << 8) | (b as u32))
 }
 
 // The journal word of a mark.
 pub fn mark_of(pc: u16) -> u32
     ensures { λ r. ⌜ r ≡ markWord pc ⌝ }
 {
-    3221225472 | (pc as u32)
+    0x6000_0000 | (pc as u32)
 }
 
 // A journal word's kind.
 pub fn kind_of(w: u32) -> u32
-    ensures { λ r. ⌜ r ≡ w / 2 ^ 30 ⌝ }
+    ensures { λ r. ⌜ r ≡ w / 2 ^ 29 ⌝ }
 {
-    w >> 30
+    w >> 29
 }
 
-// The thirty bits under it.
+// The 29 bits under it.
 pub fn under_kind(w: u32) -> u32
-    ensures { λ r. ⌜ r ≡ w % 2 ^ 30 ⌝ }
+    ensures { λ r. ⌜ r ≡ w % 2 ^ 29 ⌝ }
 {
-    w & 0x3FFF_FFFF
+    w & 0x1FFF_FFFF
 }
 
 // The address among them.
 pub fn cell_of(w: u32) -> u32
-    ensures { λ r. ⌜ r ≡ w % 2 ^ 30 / 256 ⌝ }
+    ensures { λ r. ⌜ r ≡ w % 2 ^ 29 / 256 ⌝ }
 {
-    (w & 0x3FFF_FFFF) >> 8
+    (w & 0x1FFF_FFFF) >> 8
 }
 
 // The byte that stood there.
 pub fn byte_of(w: u32) -> u8
-    ensures { λ r. ⌜ r ≡ w % 2 ^ 30 % 256 ⌝ }
+    ensures { λ r. ⌜ r ≡ w % 2 ^ 29 % 256 ⌝ }
 {
     (w & 255) as u8
 }

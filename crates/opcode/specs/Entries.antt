@@ -18,7 +18,7 @@ entries imm w op =
     ∷ (0x04, does back) ∷ (0x05, does long) ∷ (0x06, does call) ∷ (0x07, does all)
     ∷ (0x08, does fmt) ∷ (0x09, does (test high)) ∷ (0x0A, does (test greater)) ∷ (0x0B, stops ended)
     ∷ (0x0C, does (test carry)) ∷ (0x0D, does (test overflow))
-    ∷ (0x30, does (move (op % 16))) ∷ (0x40, does (branch false (op % 32))) ∷ (0x60, does (branch true (op % 32)))
+    ∷ (0x30, does (move (op % 32))) ∷ (0x40, does (branch false (op % 32))) ∷ (0x60, does (branch true (op % 32)))
     ∷ (0x80, does (one abs w)) ∷ (0x82, does (one neg w)) ∷ (0x84, does (one inv w)) ∷ (0x86, does (one clr w))
     ∷ (0x88, does (fetch w)) ∷ (0x8A, does (case w)) ∷ (0x8C, does (push w)) ∷ (0x8E, does (one cz w))
     ∷ (0x90, does (one inc w)) ∷ (0x92, does (one dec w)) ∷ (0x94, does (one inct w)) ∷ (0x96, does (one dect w))

@@ -50,7 +50,7 @@ fn line_of(eighth: u8) -> u64
         1 => 0x08_09_0A_0B_0C_0D_FF_03, // >08
         2 => 0xFF_FF_FF_FF_FF_FF_FF_FF, // >10
         3 => 0xFF_FF_FF_FF_FF_FF_FF_FF, // >18
-        4 => 0xFF_FF_FF_FF_FF_FF_FF_FF, // >20
+        4 => 0x30_30_30_30_30_30_FF_FF, // >20
         5 => 0xFF_FF_FF_FF_FF_FF_FF_FF, // >28
         6 => 0x30_30_30_30_30_30_FF_FF, // >30
         7 => 0x30_30_30_30_30_30_FF_FF, // >38
@@ -112,7 +112,7 @@ pub fn class_of(op: u8) -> Class
         0x0B => Class::Stops(Why::Ended),
         0x0C => Class::Does(Task::Test(Test::Carry)),
         0x0D => Class::Does(Task::Test(Test::Overflow)),
-        0x30 => Class::Does(Task::Move(op % 16)),
+        0x30 => Class::Does(Task::Move(op % 32)),
         0x40 => Class::Does(Task::Branch(false, op % 32)),
         0x60 => Class::Does(Task::Branch(true, op % 32)),
         0x80 => Class::Does(Task::One(One::Abs, wide)),

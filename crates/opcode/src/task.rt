@@ -2,20 +2,21 @@
 use crate::class::Task;
 use machine::state::Now;
 ghost use Rattle.rules.specs.Tasks.{ruleOf};
-ghost use Rattle.machine.specs.Meaning.{_&_, Does, Image, IsPad, IsRegs, IsVram, Journal, Pad, Regs, Vram};
+ghost use Rattle.machine.specs.Meaning.{_&_, Does, Groups, Image, IsPad, IsRegs, IsVram, Journal, Pad, Regs, Vram};
 ghost use Rattle.opcode.specs.Meaning.{taskOf};
 
 pub fn perform(
-    image: &[u8],
+    image: &mut [u8],
     pad: &mut [u8],
     vram: &mut [u8],
     regs: &mut [u8],
     journal: &mut [u32],
     m: Now,
+    groups: u8,
     task: Task,
 ) -> Now
     requires { ⌜ IsPad pad × IsVram vram × IsRegs regs ⌝ }
-    ensures { λ r. ⌜ Does (ruleOf (taskOf task)) (Image image & Pad pad & Vram vram & Regs regs & Journal journal) m r ⌝ }
+    ensures { λ r. ⌜ Does (ruleOf (taskOf task)) (Image image & Groups groups & Pad pad & Vram vram & Regs regs & Journal journal) m r ⌝ }
 {
     match task {
         Task::Rtn => flow::branches::rtn(pad, journal, m),
@@ -27,7 +28,16 @@ pub fn perform(
         Task::All => block::screen::all(image, pad, vram, journal, m),
         Task::Fmt => format::codes::format(image, pad, vram, journal, m),
         Task::Test(t) => flow::status::test_status(pad, journal, m, t),
-        Task::Move(bits) => block::whole::move_block(image, pad, vram, regs, journal, m, bits),
+        Task::Move(bits) => block::whole::move_block(
+            image,
+            pad,
+            vram,
+            regs,
+            journal,
+            m,
+            groups,
+            bits,
+        ),
         Task::Branch(set, upper) => flow::branches::branch(image, pad, journal, m, set, upper),
         Task::One(op, wide) => arith::operations::one(image, pad, vram, journal, m, op, wide),
         Task::Fetch(wide) => flow::operands::fetch(image, pad, vram, journal, m, wide),

@@ -8,7 +8,7 @@ use native.Mathlib.Omega.{arith}
 use lib.Dec.{ltb, lit<}
 use borrow.Author.Tests.{ltb-true, ltb-false, leb-false}
 use Rattle.rules.specs.Machine.{pick, reach}
-use Rattle.rules.specs.Answers.{Why, ended, noSuch, needsHost, offCpu, offVdp, offGrom, offStack, tooLong, noRoom, wrongLength, noRecord, offRegister, tooCoarse}
+use Rattle.rules.specs.Answers.{Why, ended, noSuch, needsHost, offCpu, offVdp, offGrom, offStack, tooLong, noRoom, wrongLength, noRecord, offRegister, tooCoarse, readOnly}
 use Rattle.rules.specs.Answers.{number, address, Answer, answerFor}
 use Rattle.rules.specs.Operands.{Cell, inReach, firstOut}
 use Rattle.rules.specs.Demands.{Listed}
@@ -32,6 +32,7 @@ placed-why wrongLength = nowhere refl
 placed-why noRecord = nowhere refl
 placed-why offRegister = nowhere refl
 placed-why tooCoarse = nowhere refl
+placed-why readOnly = nowhere refl
 
 -- of every refusal of a call, which is one of the table's
 pub listed-placed : {a : Answer} → Listed a → Placed a

@@ -1,9 +1,11 @@
 -- The bench cards and the other facts, by computation over a machine of full size.
 use mathlib.Core.Path.{_≡_, refl}
 use mathlib.Core.Bool.{true}
+use mathlib.Core.List.{[], _∷_}
 use Prim.Native.Nat.{ℕ}
 use Rattle.rules.specs.Arithmetic.{parity}
 use Rattle.rules.specs.Cards.{cards, facts, bufferFacts, addressFacts, coincFacts, everyPasses}
+use Rattle.rules.specs.Gram.{chip, moved, gramFacts, wrapped, holds, everyHolds, takenBack, backFacts}
 use Rattle.rules.proofs.Compute.{everyRule}
 
 pub cards-pass : everyPasses cards ≡ true
@@ -30,3 +32,20 @@ addresses-hold = refl
 pub coinc-holds : everyPasses coincFacts ≡ true
 unfolding everyRule
 coinc-holds = refl
+
+-- 02, item 9
+pub gram-holds : everyHolds gramFacts ≡ true
+unfolding everyRule
+gram-holds = refl
+
+pub wraps : holds wrapped ≡ true
+unfolding everyRule
+wraps = refl
+
+pub gram-back : takenBack (moved 0x02 8 0 6 7 [] []) (chip 0x2000 0 ∷ chip 0x2001 0 ∷ []) ≡ true
+unfolding everyRule
+gram-back = refl
+
+pub back-facts : backFacts ≡ true
+unfolding everyRule
+back-facts = refl

@@ -7,10 +7,10 @@ use native.Mathlib.Nat.{le-of-suc-le-suc, not-suc-le-zero, le-refl}
 use native.Mathlib.Omega.{arith}
 use lib.Dec.{ltb}
 use lib.ListN.{length, getD, set, take}
-use Rattle.rules.specs.Machine.{pick, Kind, reach, Mem, State, state, cells, put, beside, onward}
-use Rattle.rules.specs.Answers.{answerFor, noRoom, offGrom, outside}
+use Rattle.rules.specs.Machine.{pick, Kind, extent, writable, Mem, area, State, state, cells, put, beside, onward}
+use Rattle.rules.specs.Answers.{answerFor, noRoom, offGrom, readOnly, outside}
 use Rattle.rules.specs.Journal.{markWord, lay, Store, storeOf, wordOf, make, Note, note, restore, zeroTop, undoTop, undo, blank, blanked}
-use Rattle.rules.specs.Rules.{Act, next, grom, ask, jump, load, store, Out, got, stopped, room, perform}
+use Rattle.rules.specs.Rules.{Act, next, ask, jump, load, store, Out, got, stopped, room, perform}
 use Rattle.rules.specs.Calls.{takeMark, attempt}
 use Rattle.rules.proofs.Kept.{Both, on, off, Keeps, attempt-keeps}
 use Rattle.rules.proofs.Undo.{restore-beside}
@@ -125,13 +125,15 @@ clear-store k a b pc m =
 perform-clear : (q : Act) (pc : ℕ) (m : Mem) → cleared (perform q pc m) ≡ perform q pc (clear m)
 unfolding perform
 perform-clear next pc m = cleared-pick (ltb pc (length (m .image))) (got (getD (m .image) pc 0) (onward pc) m) (stopped (answerFor (offGrom pc)) m)
-perform-clear (grom a) pc m = cleared-pick (ltb a (length (m .image))) (got (getD (m .image) a 0) pc m) (stopped (answerFor (offGrom a)) m)
 perform-clear ask pc m = refl
 perform-clear (jump a) pc m = refl
-perform-clear (load k a) pc m = cleared-pick (ltb a (reach k)) (got (getD (cells k m) a 0) pc m) (stopped (answerFor (outside k a)) m)
+perform-clear (load k a) pc m = cleared-pick (ltb a (extent (area m) k)) (got (getD (cells k m) a 0) pc m) (stopped (answerFor (outside k a)) m)
 perform-clear (store k a b) pc m =
-    cleared-pick (ltb a (reach k)) (pick (room m) (got 0 pc (make (storeOf k a (b % 256) m) m)) (stopped (answerFor noRoom) m)) (stopped (answerFor (outside k a)) m)
-    ∙ ap (λ (o : Out ℕ). pick (ltb a (reach k)) o (stopped (answerFor (outside k a)) (clear m))) (clear-store k a (b % 256) pc m)
+    let x : Out ℕ = pick (room m) (got 0 pc (make (storeOf k a (b % 256) m) m)) (stopped (answerFor noRoom) m) in
+    cleared-pick (ltb a (extent (area m) k)) (pick (writable (area m) k a) x (stopped (answerFor readOnly) m)) (stopped (answerFor (outside k a)) m)
+    ∙ ap (λ (o : Out ℕ). pick (ltb a (extent (area m) k)) o (stopped (answerFor (outside k a)) (clear m)))
+    (cleared-pick (writable (area m) k a) x (stopped (answerFor readOnly) m)
+    ∙ ap (λ (o : Out ℕ). pick (writable (area m) k a) o (stopped (answerFor readOnly) (clear m))) (clear-store k a (b % 256) pc m))
 
 takeMark-clear : (pc pc₁ : ℕ) (m : Mem) → cleared (takeMark pc pc₁ m) ≡ takeMark pc pc₁ (clear m)
 unfolding takeMark

@@ -6,14 +6,14 @@ use Rattle.rules.specs.Rules.{_>>=_, perform, exec, after, valued, actSt
 use Rattle.rules.specs.Operands.{shortOffset, offset, addIndex, indexed, throughWord, throughByte, popCell, throughPad, named, farCell}
 use Rattle.rules.specs.Operands.{anyCell, reached, operandOf, position, screenByte, toScreen, loadBuffer, refresh, standing, value}
 use Rattle.rules.specs.Operands.{pokeWord, storeValue, echo, result, operandValue, immediate, source}
-use Rattle.rules.specs.Opcodes.{moveClass, classOf}
+use Rattle.rules.specs.Opcodes.{gramClass, moveClass, classOf}
 use Rattle.rules.specs.Arithmetic.{above, complement, extended, statusByte, compared, withCondition, tested, sum, carries, overflows, oddOnes, sumStatus}
 use Rattle.rules.specs.Arithmetic.{shiftCount, arithmetic, leftward, rightward, circular, repeated, absolute, inverse, oneEffect, twoEffect}
 use Rattle.rules.specs.Arithmetic.{nextSeed, randomOf}
 use Rattle.rules.specs.Instructions.{setCondition, storeEffect, oneRule, twoRule, testRule, halves, mulRule, divOverflow, divResults, divided, divRule}
 use Rattle.rules.specs.Instructions.{exRule, raise, pushPc, popPc, pushRule, jumpInGroup, jumpIf, branchRule, longRule, callRule, rtnRule}
-use Rattle.rules.specs.Instructions.{rtncRule, caseRule, fetchRule, randRule, backRule, fill, allRule, moveLength, registerCell, moveTarget}
-use Rattle.rules.specs.Instructions.{gromSource, cellSource, moveSource, sourceByte, registerOne, deliver, moveByte, moveBytes, moveCount}
+use Rattle.rules.specs.Instructions.{rtncRule, caseRule, fetchRule, randRule, backRule, fill, allRule, moveLength, registerCell, ramTarget, moveTarget}
+use Rattle.rules.specs.Instructions.{gromCell, moveSource, sourceByte, registerOne, deliver, moveByte, moveBytes, moveCount}
 use Rattle.rules.specs.Instructions.{moveRule}
 use Rattle.rules.specs.Format.{setCursor, wrapShow, wrapSkip, show, skip, showNext, text, showTimes, repeatText, cpuOperand, showCell}
 use Rattle.rules.specs.Format.{padText, operandText, goOn, openBlock, closeBlock, repeatBlock, blockTurn, endInside, settleCursor}
@@ -23,6 +23,7 @@ use Rattle.rules.specs.Tasks.{ruleOf}
 use Rattle.rules.specs.Calls.{imageFits, partsFit, takeMark, begin, attempt, fitStep, step, beginStores, stepStores, steps, run, scan}
 use Rattle.rules.specs.Calls.{fitBack, stepBack, view}
 use Rattle.rules.specs.Cards.{passes, everyPasses}
+use Rattle.rules.specs.Gram.{holds, everyHolds, takenBack, backAnswers}
 
 unfoldable pub everyRule : Unit {0}
 unfolding _also_ bit
@@ -30,16 +31,16 @@ unfolding _also_ bit
     _>>=_ perform exec after valued actStores stores need nextWord peekWord
     shortOffset offset addIndex indexed throughWord throughByte popCell throughPad named farCell anyCell reached operandOf position screenByte
     toScreen loadBuffer refresh standing value pokeWord storeValue echo result operandValue immediate source
-    moveClass classOf
+    gramClass moveClass classOf
     above complement extended statusByte compared withCondition tested sum carries overflows ones onesIn oddOnes sumStatus shiftCount arithmetic leftward rightward
     circular repeated absolute inverse oneEffect twoEffect nextSeed randomOf
     setCondition storeEffect oneRule twoRule testRule halves mulRule divOverflow divResults divided divRule exRule raise pushPc popPc pushRule jumpInGroup
-    jumpIf branchRule longRule callRule rtnRule rtncRule caseRule fetchRule randRule backRule fill allRule moveLength registerCell moveTarget
-    gromSource cellSource moveSource sourceByte registerOne deliver moveByte moveBytes moveCount moveRule
+    jumpIf branchRule longRule callRule rtnRule rtncRule caseRule fetchRule randRule backRule fill allRule moveLength registerCell ramTarget moveTarget
+    gromCell moveSource sourceByte registerOne deliver moveByte moveBytes moveCount moveRule
     setCursor wrapShow wrapSkip show skip showNext text showTimes repeatText cpuOperand showCell padText operandText goOn openBlock closeBlock
     repeatBlock blockTurn endInside settleCursor endOutside endCode gromBias operandBias cursorCode lastRow codeRule code codes fmtRule
     difference along inside tableBit meets inTable lookUp granularity coincRule
     ruleOf
     imageFits partsFit takeMark begin attempt fitStep step beginStores stepStores steps run scan fitBack stepBack view
-    passes everyPasses
+    passes everyPasses holds everyHolds takenBack backAnswers
 everyRule = tt

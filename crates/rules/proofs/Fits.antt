@@ -6,12 +6,12 @@ use Prim.Native.Nat.{ℕ, _≤_}
 use lib.Dec.{eqb}
 use lib.ListN.{length, length-set}
 use borrow.Author.Tests.{le-leb, leb-true}
-use Rattle.rules.specs.Machine.{pick, _also_, cpu, vdp, register, size, Mem, State}
+use Rattle.rules.specs.Machine.{pick, _also_, cpu, vdp, register, grom, size, Mem, State}
 use Rattle.rules.specs.Answers.{answerFor, wrongLength}
 use Rattle.rules.specs.Journal.{markWord, lay, Store}
-use Rattle.rules.specs.Calls.{partsFit, memFits, fits, Reply, refused, fitStep, step, stepStores, fitBack, stepBack}
+use Rattle.rules.specs.Calls.{partsFit, fits, Reply, refused, fitStep, step, stepStores, fitBack, stepBack}
 use Rattle.rules.specs.Demands.{Good, Accepted}
-use Rattle.rules.proofs.Stores.{image-after, lengths-after, journal-length, used-fits}
+use Rattle.rules.proofs.Stores.{lengths-after, journal-length, used-fits}
 use Rattle.rules.proofs.Clear.{clearS, length-keep}
 use Rattle.rules.proofs.Steps.{Stepped, Settled, settled, clearR, step-clear, back-clear}
 
@@ -54,7 +54,7 @@ fits-after {s} {t} h f =
     let l : length (lay (markWord (s .pc)) m .journal) ≡ length (m .journal) = length-set (m .journal) (m .used) (markWord (s .pc)) in
     let k : t .mem .used ≤ length (t .mem .journal) = used-fits (h .makes) (rw l (h .word-left)) in
     let e : length (t .mem .journal) ≡ length (m .journal) = journal-length (h .makes) ∙ l in
-    rw (image-after (h .makes), lengths-after cpu (h .makes), lengths-after vdp (h .makes), lengths-after register (h .makes), e)
+    rw (lengths-after grom (h .makes), lengths-after cpu (h .makes), lengths-after vdp (h .makes), lengths-after register (h .makes), e)
     (together (both f .0) (parts-other _ _ _ _ (m .used) (t .mem .used) (subst (λ (n : ℕ). t .mem .used ≤ n) e k) (both f .1)))
 
 -- ---- the calls
@@ -83,7 +83,7 @@ module _ (s : State) where
   pub step-settled : Good s → Settled s (stepStores s) (step s)
   step-settled g = step-cases (Settled s (stepStores s)) (λ e. settled s g) (λ e. record { taken = 0; same = refl })
 
-pub back-fit : (s : State) → memFits (s .mem) ≡ true → stepBack s ≡ fitBack s
+pub back-fit : (s : State) → fits (s .mem) ≡ true → stepBack s ≡ fitBack s
 unfolding stepBack
 back-fit s h = rw h
 
@@ -101,4 +101,4 @@ call-clear s =
 pub call-back-clear : (s : State) → clearR (stepBack s) ≡ stepBack (clearS s)
 unfolding stepBack
 call-back-clear s =
-    clearR-pick (memFits (s .mem)) (fitBack s) (refused (answerFor wrongLength) s) ∙ rw (back-clear s, length-keep (s .mem .used) (s .mem .journal))
+    clearR-pick (fits (s .mem)) (fitBack s) (refused (answerFor wrongLength) s) ∙ rw (back-clear s, length-keep (s .mem .used) (s .mem .journal))

@@ -10,12 +10,12 @@ use lib.Seq.{take-suc-set, append-snoc}
 use Rattle.rules.specs.Machine.{Mem, State, state, cells}
 use Rattle.rules.specs.Answers.{Answer, answerFor, wrongLength, noRecord}
 use Rattle.rules.specs.Journal.{markWord, Store, wordOf, blanked}
-use Rattle.rules.specs.Calls.{memFits, Reply, done, refused, left, step, stepStores, scan, fitBack, stepBack}
+use Rattle.rules.specs.Calls.{fits, Reply, done, refused, left, step, stepStores, scan, fitBack, stepBack}
 use Rattle.rules.specs.Demands.{Good, Accepted, Refused, Op, forth, aback, reply, play, tally, kept, forward, AllAccepted, records, total, Demand3}
-use Rattle.rules.proofs.Stores.{used-after, words-after}
+use Rattle.rules.proofs.Stores.{used-after, groups-after, words-after}
 use Rattle.rules.proofs.Clear.{clearS, take-keep, clear-blanked}
 use Rattle.rules.proofs.Steps.{Stepped, Settled, back-step, clearR}
-use Rattle.rules.proofs.Fits.{both, fits-after, accepted-fits, step-settled, back-fit, call-clear, call-back-clear}
+use Rattle.rules.proofs.Fits.{fits-after, accepted-fits, step-settled, back-fit, call-clear, call-back-clear}
 
 -- ---- one step
 
@@ -31,7 +31,7 @@ pub back-undoes : (s : State) → Good s → Accepted (step s)
     → stepBack (left (step s)) ≡ done (state (s .pc) (blanked (suc (length (stepStores s))) (s .mem)))
 back-undoes s g a =
     let h : Stepped s (stepStores s) (left (step s)) = stepped s g a in
-    back-fit (left (step s)) (both (fits-after h (accepted-fits s a)) .1) ∙ back-step g h
+    back-fit (left (step s)) (fits-after h (accepted-fits s a)) ∙ back-step g h
 
 -- with no word used there is no record
 pub record Nothing (s : State) : Type 0 where
@@ -40,9 +40,9 @@ pub record Nothing (s : State) : Type 0 where
 
 pub back-nothing : (s : State) → s .mem .used ≡ 0 → Nothing s
 unfolding stepBack fitBack scan
-back-nothing s z = go (memFits (s .mem)) refl
+back-nothing s z = go (fits (s .mem)) refl
   where
-    go : (c : Bool) → memFits (s .mem) ≡ c → Nothing s
+    go : (c : Bool) → fits (s .mem) ≡ c → Nothing s
     go true e = record { says = answerFor noRecord; is = rw (e, z) }
     go false e = record { says = answerFor wrongLength; is = rw e }
 
@@ -85,6 +85,10 @@ module _ (s₀ : State) (g₀ : Good s₀) where
       ∙ ap (λ (l : List ℕ). l ++ ws) (take-suc-set (t .mem .journal) (t .mem .used) w (h .word-left))
       ∙ append-snoc (take (t .mem .used) (t .mem .journal)) w ws
       ∙ ap (λ (l : List ℕ). l ++ w ∷ ws) (words-forward z n (a .0))
+
+  groups-forward : (n : ℕ) → AllAccepted n s₀ → forward n s₀ .mem .groups ≡ s₀ .mem .groups
+  groups-forward zero a = refl
+  groups-forward (suc n) a = groups-after (stepped-forward n a .makes) ∙ groups-forward n (a .0)
 
   used-forward : s₀ .mem .used ≡ 0 → (n : ℕ) → AllAccepted n s₀ → forward n s₀ .mem .used ≡ n + total n s₀
   used-forward z zero a = z
@@ -156,6 +160,7 @@ demand3 s₀ g z os =
       accepted = h .accepted;
       address = ap (λ (x : State). x .pc) (h .same);
       memories = λ k. ap (λ (x : State). cells k (x .mem)) (h .same);
+      groups = ap (λ (x : State). x .mem .groups) (h .same) ∙ groups-forward s₀ g n (h .accepted);
       used = ap (λ (x : State). x .mem .used) (h .same) ∙ used-forward s₀ g z n (h .accepted);
       words =
           sym (take-keep (s .mem .used) (s .mem .journal)) ∙ ap (λ (x : State). take (x .mem .used) (x .mem .journal)) (h .same)

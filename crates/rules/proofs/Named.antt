@@ -6,10 +6,10 @@ use Prim.Native.Nat.{ℕ}
 use native.Mathlib.Omega.{arith}
 use lib.Dec.{ltb}
 use lib.ListN.{length}
-use Rattle.rules.specs.Machine.{pick, reach, State}
-use Rattle.rules.specs.Answers.{Why, Answer, well, answerFor, offGrom, noRoom, wrongLength, noRecord, outside}
-use Rattle.rules.specs.Rules.{Act, next, grom, ask, jump, load, store, Rule, Out, got, stopped, room, perform, exec}
-use Rattle.rules.specs.Calls.{memFits, fits, Reply, done, refused, answer, takeMark, attempt, settle, fitStep, step, Report, report, steps, run}
+use Rattle.rules.specs.Machine.{pick, extent, writable, area, State}
+use Rattle.rules.specs.Answers.{Why, Answer, well, answerFor, offGrom, noRoom, readOnly, wrongLength, noRecord, outside}
+use Rattle.rules.specs.Rules.{Act, next, ask, jump, load, store, Rule, Out, got, stopped, room, perform, exec}
+use Rattle.rules.specs.Calls.{fits, Reply, done, refused, answer, takeMark, attempt, settle, fitStep, step, Report, report, steps, run}
 use Rattle.rules.specs.Calls.{Find, found, lost, scan, backTo, fitBack, stepBack}
 use Rattle.rules.specs.Demands.{Listed, Accepted, forward, Ends, full, cut}
 use Rattle.rules.proofs.Opcodes.{never-done}
@@ -28,12 +28,13 @@ by-name why = record { why = why; is = refl }
 named-act : (q : Act) (s : State) → Any s → Held Any Listed (perform q (s .pc) (s .mem))
 unfolding perform
 named-act next s h = by-test Any Listed (ltb (s .pc) (length (s .mem .image))) _ _ tt (by-name (offGrom (s .pc)))
-named-act (grom a) s h = by-test Any Listed (ltb a (length (s .mem .image))) _ _ tt (by-name (offGrom a))
 named-act ask s h = tt
 named-act (jump a) s h = tt
-named-act (load k a) s h = by-test Any Listed (ltb a (reach k)) _ _ tt (by-name (outside k a))
+named-act (load k a) s h = by-test Any Listed (ltb a (extent (area (s .mem)) k)) _ _ tt (by-name (outside k a))
 named-act (store k a b) s h =
-    by-test Any Listed (ltb a (reach k)) _ _ (by-test Any Listed (room (s .mem)) _ _ tt (by-name noRoom)) (by-name (outside k a))
+    by-test Any Listed (ltb a (extent (area (s .mem)) k)) _ _
+    (by-test Any Listed (writable (area (s .mem)) k a) _ _ (by-test Any Listed (room (s .mem)) _ _ tt (by-name noRoom)) (by-name readOnly))
+    (by-name (outside k a))
 
 named-mark : (pc : ℕ) (s : State) → Any s → Held Any Listed (takeMark pc (s .pc) (s .mem))
 unfolding takeMark
@@ -65,10 +66,10 @@ named-find lost s = by-name noRecord
 
 pub named-back : (s : State) → NamedReply (stepBack s)
 unfolding stepBack fitBack
-named-back s = go (memFits (s .mem))
+named-back s = go (fits (s .mem))
   where
     go : (c : Bool) → NamedReply (pick c (fitBack s) (refused (answerFor wrongLength) s))
-    go true = named-find (scan (s .mem .used) (s .mem .journal)) s
+    go true = named-find (scan (area (s .mem)) (s .mem .used) (s .mem .journal)) s
     go false = by-name wrongLength
 
 -- an answer of 0 is a call that was done

@@ -1,4 +1,4 @@
--- The 256 opcodes by one computed test: those that 1, 2 and 3 stop are exactly 01's lists, and every other has a rule. The table's numbers by another: 1 to 8, 10 to 13.
+-- The 256 opcodes by one computed test: those that 1, 2 and 3 stop are exactly 01's lists, and every other has a rule. The table's numbers by another: 1 to 8, 10 to 13, 23, 24.
 use mathlib.Core.Path.{_≡_, refl, _∙_, ap, sym}
 use mathlib.Core.Bool.{Bool, true, false}
 use mathlib.Core.List.{List, [], _∷_, _++_}
@@ -8,8 +8,8 @@ use native.Mathlib.Decide.{ℕ-discrete}
 use lib.Dec.{eqb}
 use borrow.Author.Tests.{eqb-true}
 use Rattle.rules.specs.Machine.{pick, _also_, bit}
-use Rattle.rules.specs.Answers.{Why, ended, noSuch, needsHost, offCpu, offVdp, offGrom, offStack, tooLong, noRoom, wrongLength, noRecord, offRegister, tooCoarse, number}
-use Rattle.rules.specs.Opcodes.{Class, stops, does, classOf, moveClass}
+use Rattle.rules.specs.Answers.{Why, ended, noSuch, needsHost, offCpu, offVdp, offGrom, offStack, tooLong, noRoom, wrongLength, noRecord, offRegister, tooCoarse, readOnly, number}
+use Rattle.rules.specs.Opcodes.{Class, stops, does, classOf, gramClass, moveClass}
 use Rattle.rules.proofs.Fits.{false-true, both}
 
 -- ---- 01's lists
@@ -28,11 +28,11 @@ from a zero = []
 from a (suc n) = a ∷ from (suc a) n
 
 -- those that 01 names as instructions: >00 to >0D but those above, MOVE but >36, >37, >3E, >3F, BR and BS, those of one operand, those of two but immediate EX;
--- and 02's COINC
+-- and of 02 COINC and MOVE into GROM
 pub instructions : List ℕ
 instructions =
     from 0x00 3 ++ from 0x04 7 ++ from 0x0C 2
-    ++ from 0x30 6 ++ from 0x38 6
+    ++ from 0x20 6 ++ from 0x30 6 ++ from 0x38 6
     ++ from 0x40 32 ++ from 0x60 32
     ++ from 0x80 24
     ++ from 0xA0 34 ++ from 0xC4 40 ++ from 0xED 1
@@ -70,7 +70,7 @@ right : ℕ → Bool
 right op = eqb (verdict (classOf op)) (listed op)
 
 all-right : below 256 right ≡ true
-unfolding below right verdict classOf moveClass listed among instructions ending hosts from _also_ bit
+unfolding below right verdict classOf gramClass moveClass listed among instructions ending hosts from _also_ bit
 all-right = refl
 
 pub opcodes-listed : (op : ℕ) → op < 256 → verdict (classOf op) ≡ listed op
@@ -80,7 +80,7 @@ opcodes-listed op h = eqb-true _ _ (below-at 256 right all-right op h)
 -- ---- the numbers of the table
 
 numbers : List ℕ
-numbers = from 1 8 ++ from 10 4 ++ 23 ∷ []
+numbers = from 1 8 ++ from 10 4 ++ from 23 2
 
 in-table : (why : Why) → among (number why) numbers ≡ true
 unfolding among numbers from
@@ -97,6 +97,7 @@ in-table wrongLength = refl
 in-table noRecord = refl
 in-table offRegister = refl
 in-table tooCoarse = refl
+in-table readOnly = refl
 
 not-in-table : (n : ℕ) → among n numbers ≡ false → (why : Why) → number why ≡ n → ⊥
 not-in-table n e why h = false-true (sym e ∙ ap (λ (k : ℕ). among k numbers) (sym h) ∙ in-table why)

@@ -9,15 +9,15 @@ use lib.Dec.{ltb, lit<}
 use lib.ListN.{length, getD, set}
 use lib.Seq.{getD-set-same, getD-set-other}
 use borrow.Author.Tests.{ltb-true, lt-ltb}
-use Rattle.rules.specs.Machine.{pick, Kind, reach, Mem, State, state, onward}
+use Rattle.rules.specs.Machine.{pick, _also_, Kind, Area, extent, writable, Mem, area, State, state, onward}
 use Rattle.rules.specs.Answers.{Answer, answerFor, noRoom, offGrom}
-use Rattle.rules.specs.Journal.{markWord, lay, Store, wordOf, Note, stood, mark, note, undoTop, undo, blanked}
-use Rattle.rules.specs.Rules.{Act, next, grom, ask, jump, load, store, Deed, Out, got, stopped, then, room, perform, after, stores, storesThen}
+use Rattle.rules.specs.Journal.{markWord, lay, Store, wordOf, make, Note, stood, mark, note, undoTop, undo, blanked}
+use Rattle.rules.specs.Rules.{Act, next, ask, jump, load, store, Deed, Out, got, stopped, then, room, perform, after, stores, storesThen}
 use Rattle.rules.specs.Opcodes.{Class, stops, does, classOf}
 use Rattle.rules.specs.Tasks.{ruleOf}
 use Rattle.rules.specs.Calls.{Reply, done, refused, takeMark, begin, attempt, settle, fitStep, beginStores, stepStores, Find, found, lost, further, seen, scan, backTo, fitBack}
 use Rattle.rules.specs.Demands.{Bytes, Good}
-use Rattle.rules.proofs.Stores.{memOf, Made, none, one, makes, used-after}
+use Rattle.rules.proofs.Stores.{memOf, Made, none, one, makes, used-after, area-after}
 use Rattle.rules.proofs.Undo.{note-mark, note-store, bytes-after, undo-lay, rollback}
 use Rattle.rules.proofs.Kept.{Held, by-test, Holds, attempt-holds}
 use Rattle.rules.proofs.Clear.{keep, clear, clearS, cleared, getD-keep, clear-blanked, blanked-clear, attempt-clear, undo-clear}
@@ -33,11 +33,12 @@ Any a = Unit {0}
 in16-act : (q : Act) (s : State) → In16 s → Held In16 Any (perform q (s .pc) (s .mem))
 unfolding perform
 in16-act next s h = by-test In16 Any (ltb (s .pc) (length (s .mem .image))) _ _ (omega arith) tt
-in16-act (grom a) s h = by-test In16 Any (ltb a (length (s .mem .image))) _ _ h tt
 in16-act ask s h = h
 in16-act (jump a) s h = mod-lt a (lit< tt)
-in16-act (load k a) s h = by-test In16 Any (ltb a (reach k)) _ _ h tt
-in16-act (store k a b) s h = by-test In16 Any (ltb a (reach k)) _ _ (by-test In16 Any (room (s .mem)) _ _ h tt) tt
+in16-act (load k a) s h = by-test In16 Any (ltb a (extent (area (s .mem)) k)) _ _ h tt
+in16-act (store k a b) s h =
+    by-test In16 Any (ltb a (extent (area (s .mem)) k)) _ _
+    (by-test In16 Any (writable (area (s .mem)) k a) _ _ (by-test In16 Any (room (s .mem)) _ _ h tt) tt) tt
 
 in16-mark : (pc : ℕ) (s : State) → In16 s → Held In16 Any (takeMark pc (s .pc) (s .mem))
 unfolding takeMark
@@ -122,36 +123,41 @@ rollback-step {m = m} {m₁ = m₁} {ss = ss} a b (late h t) =
 
 -- ---- a step back
 
-pub scan-same : (u : ℕ) (j l : List ℕ) → ((n : ℕ) → n < u → getD j n 0 ≡ getD l n 0) → scan u j ≡ scan u l
-unfolding scan
-scan-same zero j l h = refl
-scan-same (suc u) j l h = ap₂ (λ (w : ℕ) (f : Find). seen (note w) f) (h u (le-refl (suc u))) (scan-same u j l (λ n k. h n (omega arith)))
+module _ (z : Area) where
+  pub scan-same : (u : ℕ) (j l : List ℕ) → ((n : ℕ) → n < u → getD j n 0 ≡ getD l n 0) → scan z u j ≡ scan z u l
+  unfolding scan
+  scan-same zero j l h = refl
+  scan-same (suc u) j l h = ap₂ (λ (w : ℕ) (f : Find). seen z (note w) f) (h u (le-refl (suc u))) (scan-same u j l (λ n k. h n (omega arith)))
 
-scan-lay : (u w : ℕ) (j : List ℕ) → u < length j → scan (suc u) (set j u w) ≡ seen (note w) (scan u j)
-unfolding scan
-scan-lay u w j h =
-    ap₂ (λ (x : ℕ) (f : Find). seen (note x) f) (getD-set-same j u w 0 h)
-    (scan-same u (set j u w) j (λ n k. getD-set-other j u n w 0 (omega arith)))
+  scan-lay : (u w : ℕ) (j : List ℕ) → u < length j → scan z (suc u) (set j u w) ≡ seen z (note w) (scan z u j)
+  unfolding scan
+  scan-lay u w j h =
+      ap₂ (λ (x : ℕ) (f : Find). seen z (note x) f) (getD-set-same j u w 0 h)
+      (scan-same u (set j u w) j (λ n k. getD-set-other j u n w 0 (omega arith)))
 
--- a sound word: of a store it is passed over, and a mark is found
-seen-store : (k : Kind) (a b : ℕ) (f : Find) → a < reach k → seen (stood k a b) f ≡ further f
-seen-store k a b f h = rw (lt-ltb a (reach k) h)
+  -- a sound word: of a store it is passed over, and a mark is found
+  seen-store : (k : Kind) (a b : ℕ) (f : Find) → a < extent z k → writable z k a ≡ true → seen z (stood k a b) f ≡ further f
+  unfolding _also_
+  seen-store k a b f h w = rw (lt-ltb a (extent z k) h, w)
 
-seen-mark : (pc : ℕ) (f : Find) → pc < 65536 → seen (mark pc) f ≡ found 1 pc
-seen-mark pc f h = rw (lt-ltb pc 65536 h)
+  seen-mark : (pc : ℕ) (f : Find) → pc < 65536 → seen z (mark pc) f ≡ found 1 pc
+  seen-mark pc f h = rw (lt-ltb pc 65536 h)
 
 -- stores on top of a mark leave it the newest
-scan-made : {m m′ : Mem} {ss : List Store} (n pc : ℕ) → Bytes m → Made m ss m′ → scan (m .used) (m .journal) ≡ found n pc
-    → scan (m′ .used) (m′ .journal) ≡ found (n + length ss) pc
+scan-made : {m m′ : Mem} {ss : List Store} (n pc : ℕ) → Bytes m → Made m ss m′ → scan (area m) (m .used) (m .journal) ≡ found n pc
+    → scan (area m′) (m′ .used) (m′ .journal) ≡ found (n + length ss) pc
 scan-made n pc b none e =
-    let z : n ≡ n + 0 = omega arith in
-    e ∙ ap (λ (k : ℕ). found k pc) z
+    let more : n ≡ n + 0 = omega arith in
+    e ∙ ap (λ (k : ℕ). found k pc) more
 scan-made {m} n pc b (one {s} {ss} h t) e =
-    let z : suc n + length ss ≡ n + suc (length ss) = omega arith in
+    let more : suc n + length ss ≡ n + suc (length ss) = omega arith in
+    let z : Area = area m in
+    let laid : scan z (suc (m .used)) (make s m .journal) ≡ found (suc n) pc =
+    scan-lay z (m .used) (wordOf s) (m .journal) (h .word-left) ∙ ap₂ (seen z) (note-store s m h b) e
+    ∙ seen-store z (s .kind) (s .at) (s .old) (found n pc) (h .inside) (h .allowed) in
     scan-made (suc n) pc (bytes-after (one h none) b) t
-    (scan-lay (m .used) (wordOf s) (m .journal) (h .word-left) ∙ ap₂ seen (note-store s m h b) e
-    ∙ seen-store (s .kind) (s .at) (s .old) (found n pc) (h .inside))
-    ∙ ap (λ (k : ℕ). found k pc) z
+    (ap (λ (x : Area). scan x (suc (m .used)) (make s m .journal)) (area-after (one h none)) ∙ laid)
+    ∙ ap (λ (k : ℕ). found k pc) more
 
 -- a step that was done is taken back
 pub back-step : {s t : State} {ss : List Store} → Good s → Stepped s ss t → fitBack t ≡ done (state (s .pc) (blanked (suc (length ss)) (s .mem)))
@@ -160,10 +166,11 @@ back-step {s} {t} {ss} g h =
     let z : 1 + length ss ≡ suc (length ss) = omega arith in
     let u : ℕ = s .mem .used in
     let w : ℕ = markWord (s .pc) in
-    let older : Find = scan u (s .mem .journal) in
-    let newest : scan (suc u) (set (s .mem .journal) u w) ≡ found 1 (s .pc) =
-    scan-lay u w (s .mem .journal) (h .word-left) ∙ ap (λ (x : Note). seen x older) (note-mark (s .pc) (g .address)) ∙ seen-mark (s .pc) older (g .address) in
-    let e : scan (t .mem .used) (t .mem .journal) ≡ found (1 + length ss) (s .pc) = scan-made 1 (s .pc) (g .bytes) (h .makes) newest in
+    let y : Area = area (s .mem) in
+    let older : Find = scan y u (s .mem .journal) in
+    let newest : scan y (suc u) (set (s .mem .journal) u w) ≡ found 1 (s .pc) =
+    scan-lay y u w (s .mem .journal) (h .word-left) ∙ ap (λ (x : Note). seen y x older) (note-mark (s .pc) (g .address)) ∙ seen-mark y (s .pc) older (g .address) in
+    let e : scan (area (t .mem)) (t .mem .used) (t .mem .journal) ≡ found (1 + length ss) (s .pc) = scan-made 1 (s .pc) (g .bytes) (h .makes) newest in
     ap (λ (f : Find). backTo f t) (e ∙ ap (λ (k : ℕ). found k (s .pc)) z)
     ∙ ap (λ (m : Mem). done (state (s .pc) m)) (undo-step (s .mem) (g .address) (g .bytes) (h .word-left) (h .makes))
 
@@ -191,5 +198,5 @@ pub back-clear : (s : State) → clearR (fitBack s) ≡ fitBack (clearS s)
 unfolding fitBack
 back-clear s =
     let u : ℕ = s .mem .used in
-    backTo-clear (scan u (s .mem .journal)) s
-    ∙ ap (λ (f : Find). backTo f (clearS s)) (scan-same u (s .mem .journal) (keep u (s .mem .journal)) (λ n h. sym (getD-keep u (s .mem .journal) n h)))
+    backTo-clear (scan (area (s .mem)) u (s .mem .journal)) s
+    ∙ ap (λ (f : Find). backTo f (clearS s)) (scan-same (area (s .mem)) u (s .mem .journal) (keep u (s .mem .journal)) (λ n h. sym (getD-keep u (s .mem .journal) n h)))

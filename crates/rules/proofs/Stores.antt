@@ -1,5 +1,5 @@
 -- The stores of an execution: what they did to the cells, the journal and the used count, whether the rule was done or refused.
-use mathlib.Core.Path.{_≡_, refl, _∙_, ap, sym}
+use mathlib.Core.Path.{_≡_, refl, _∙_, ap, ap₂, sym}
 use mathlib.Core.Bool.{Bool, true, false}
 use mathlib.Core.List.{List, [], _∷_, _++_, map, append-nil}
 use Prim.Native.Nat.{ℕ, zero, _+_, _%_, _≤_, _<_}
@@ -9,10 +9,10 @@ use lib.Dec.{ltb, lit<}
 use lib.ListN.{length, getD, set, take, length-set}
 use lib.Seq.{sets, take-suc-set, append-snoc}
 use borrow.Author.Tests.{ltb-true}
-use Rattle.rules.specs.Machine.{pick, Kind, cpu, vdp, register, reach, Mem, cells, put}
-use Rattle.rules.specs.Answers.{Answer, answerFor, noRoom, outside}
+use Rattle.rules.specs.Machine.{pick, Kind, cpu, vdp, register, grom, upon, Area, areaOf, extent, writable, Mem, area, cells, put}
+use Rattle.rules.specs.Answers.{Answer, answerFor, noRoom, readOnly, outside}
 use Rattle.rules.specs.Journal.{lay, Store, storeOf, wordOf, make}
-use Rattle.rules.specs.Rules.{Act, next, grom, ask, jump, load, store, Rule, give, refuse, act, Out, got, stopped, then, room, perform, exec, actStores, storesThen, stores}
+use Rattle.rules.specs.Rules.{Act, next, ask, jump, load, store, Rule, give, refuse, act, Out, got, stopped, then, room, perform, exec, actStores, storesThen, stores}
 
 -- the memories that an execution leaves
 abbrev pub memOf : {A : Type 0} → Out A → Mem
@@ -21,7 +21,8 @@ memOf (stopped n m) = m
 
 -- a store can be made
 pub record Sound (s : Store) (m : Mem) : Type 0 where
-  pub inside : s .at < reach (s .kind)
+  pub inside : s .at < extent (area m) (s .kind)
+  pub allowed : writable (area m) (s .kind) (s .at) ≡ true
   pub byte : s .new < 256
   pub word-left : m .used < length (m .journal)
   pub was : s .old ≡ getD (cells (s .kind) m) (s .at) 0
@@ -41,23 +42,23 @@ made-look : (c : Bool) (v pc : ℕ) (a : Answer) (m : Mem) → Made m [] (memOf 
 made-look true v pc a m = none
 made-look false v pc a m = none
 
-made-store : (k : Kind) (a b pc : ℕ) (m : Mem) (c : Bool) → ltb a (reach k) ≡ c → (d : Bool) → room m ≡ d
-    → Made m (pick c (pick d (storeOf k a (b % 256) m ∷ []) []) [])
-    (memOf (pick c (pick d (got zero pc (make (storeOf k a (b % 256) m) m)) (stopped (answerFor noRoom) m)) (stopped (answerFor (outside k a)) m)))
-made-store k a b pc m true e true f =
-    one (record { inside = ltb-true _ _ e; byte = mod-lt b (lit< tt); word-left = ltb-true _ _ f; was = refl }) none
-made-store k a b pc m true e false f = none
-made-store k a b pc m false e true f = none
-made-store k a b pc m false e false f = none
+made-store : (k : Kind) (a b pc : ℕ) (m : Mem) (c : Bool) → ltb a (extent (area m) k) ≡ c → (w : Bool) → writable (area m) k a ≡ w → (d : Bool) → room m ≡ d
+    → Made m (pick c (pick w (pick d (storeOf k a (b % 256) m ∷ []) []) []) [])
+    (memOf (pick c (pick w (pick d (got zero pc (make (storeOf k a (b % 256) m) m)) (stopped (answerFor noRoom) m)) (stopped (answerFor readOnly) m))
+    (stopped (answerFor (outside k a)) m)))
+made-store k a b pc m true e true w true f =
+    one (record { inside = ltb-true _ _ e; allowed = w; byte = mod-lt b (lit< tt); word-left = ltb-true _ _ f; was = refl }) none
+made-store k a b pc m true e true w false f = none
+made-store k a b pc m true e false w d f = none
+made-store k a b pc m false e c w d f = none
 
 pub made-act : (q : Act) (pc : ℕ) (m : Mem) → Made m (actStores q m) (memOf (perform q pc m))
 unfolding perform actStores
 made-act next pc m = made-look (ltb pc (length (m .image))) _ _ _ m
-made-act (grom a) pc m = made-look (ltb a (length (m .image))) _ _ _ m
 made-act ask pc m = none
 made-act (jump a) pc m = none
-made-act (load k a) pc m = made-look (ltb a (reach k)) _ _ _ m
-made-act (store k a b) pc m = made-store k a b pc m _ refl _ refl
+made-act (load k a) pc m = made-look (ltb a (extent (area m) k)) _ _ _ m
+made-act (store k a b) pc m = made-store k a b pc m _ refl _ refl _ refl
 
 made-then : {A B : Type 0} (o : Out A) (f : A → ℕ → Mem → List Store) (g : A → ℕ → Mem → Out B)
     → ((a : A) (pc : ℕ) (m : Mem) → Made m (f a pc m) (memOf (g a pc m))) → Made (memOf o) (storesThen o f) (memOf (then o g))
@@ -73,23 +74,25 @@ makes (act q k) pc m =
 
 -- ---- what a list of stores leaves
 
+-- what is so of each of four is so of the one that a kind picks
+upon-any : {A : Type 0} (Q : A → Type 0) (k : Kind) {x y z t : A} → Q x → Q y → Q z → Q t → Q (upon k x y z t)
+upon-any Q cpu x y z t = x
+upon-any Q vdp x y z t = y
+upon-any Q register x y z t = z
+upon-any Q grom x y z t = t
+
 -- a memory that a byte is put into has one cell set, and the others stay
 pub put-cells : (P : List ℕ → List ℕ → Type 0) → ((x : List ℕ) → P x x) → (a b : ℕ) → ((x : List ℕ) → P (set x a b) x)
     → (k l : Kind) (m : Mem) → P (cells k (put l a b m)) (cells k m)
-put-cells P same a b put cpu cpu m = put (m .pad)
-put-cells P same a b put cpu vdp m = same (m .pad)
-put-cells P same a b put cpu register m = same (m .pad)
-put-cells P same a b put vdp cpu m = same (m .vram)
-put-cells P same a b put vdp vdp m = put (m .vram)
-put-cells P same a b put vdp register m = same (m .vram)
-put-cells P same a b put register cpu m = same (m .regs)
-put-cells P same a b put register vdp m = same (m .regs)
-put-cells P same a b put register register m = put (m .regs)
+put-cells P same a b put cpu l m = upon-any (λ x. P x (m .pad)) l (put _) (same _) (same _) (same _)
+put-cells P same a b put vdp l m = upon-any (λ x. P x (m .vram)) l (same _) (put _) (same _) (same _)
+put-cells P same a b put register l m = upon-any (λ x. P x (m .regs)) l (same _) (same _) (put _) (same _)
+put-cells P same a b put grom l m = upon-any (λ x. P x (m .image)) l (same _) (same _) (same _) (put _)
 
--- the image stays
-pub image-after : {m m′ : Mem} {ss : List Store} → Made m ss m′ → m′ .image ≡ m .image
-image-after none = refl
-image-after (one h t) = image-after t
+-- the writable groups stay
+pub groups-after : {m m′ : Mem} {ss : List Store} → Made m ss m′ → m′ .groups ≡ m .groups
+groups-after none = refl
+groups-after (one h t) = groups-after t
 
 -- used: one word more for each
 pub used-after : {m m′ : Mem} {ss : List Store} → Made m ss m′ → m′ .used ≡ m .used + length ss
@@ -129,6 +132,10 @@ length-put k l a b m = put-cells (λ x y. length x ≡ length y) (λ x. refl) a 
 pub lengths-after : {m m′ : Mem} {ss : List Store} (k : Kind) → Made m ss m′ → length (cells k m′) ≡ length (cells k m)
 lengths-after k none = refl
 lengths-after {m} k (one {s} h t) = lengths-after k t ∙ length-put k (s .kind) (s .at) (s .new) m
+
+-- so what of GROM there is stays, though its bytes may not
+pub area-after : {m m′ : Mem} {ss : List Store} → Made m ss m′ → area m′ ≡ area m
+area-after t = ap₂ areaOf (lengths-after grom t) (groups-after t)
 
 pub journal-length : {m m′ : Mem} {ss : List Store} → Made m ss m′ → length (m′ .journal) ≡ length (m .journal)
 journal-length none = refl

@@ -31,7 +31,7 @@ position-is pc m = refl
 
 -- "Row and column bytes give a screen position below 8,192"
 pub position-below : (m : Mem) → Bytes m → positionOf m < 8192
-position-below m b = omega (arith, b cpu ypt, b cpu xpt)
+position-below m b = omega (arith, b .0 cpu ypt, b .0 cpu xpt)
 
 -- ---- the old test
 

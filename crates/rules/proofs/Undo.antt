@@ -1,19 +1,22 @@
 -- Journal words read back, and stores undone: what a refused step has taken, put back word by word, is the state before it with 0 in those words.
 use mathlib.Core.Path.{_≡_, refl, _∙_, ap, ap₂, sym}
+use mathlib.Core.Bool.{Bool, true, false}
 use mathlib.Core.List.{List, [], _∷_}
 use mathlib.Core.Logic.{_≢_}
 use Prim.Native.Nat.{ℕ, zero, suc, _+_, _-_, _*_, _/_, _%_, _^_, _≤_, _<_}
-use native.Mathlib.Nat.{le-refl}
+use native.Mathlib.Nat.{le-refl, lt-of-lt-of-le, div-eq-of-lt}
 use native.Mathlib.Omega.{arith}
 use native.Mathlib.Decide.{ℕ-discrete}
-use lib.Dec.{lit≤}
+use lib.Dec.{ltb, lit≤}
+use lib.Pow.{pow-mono}
 use lib.ListN.{length, getD, set, length-set}
 use lib.Seq.{set-set, set-getD, set-comm, getD-set-same, getD-set-other}
-use Rattle.rules.specs.Machine.{Kind, cpu, vdp, register, reach, Mem, mem, cells, put, beside}
+use borrow.Author.Tests.{eqb-true, ltb-true, ltb-false}
+use Rattle.rules.specs.Machine.{bit, Kind, cpu, vdp, register, grom, reach, Area, extent, writable, Mem, mem, area, cells, put, beside}
 use Rattle.rules.specs.Journal.{kindNumber, word, markWord, lay, Store, wordOf, make, Note, stood, mark, nothing, stoodIn, noteOf, note, restore, zeroTop, undoTop, undo, blank, blanked}
 use Rattle.rules.specs.Rules.{Rule, exec, stores}
 use Rattle.rules.specs.Demands.{Bytes}
-use Rattle.rules.proofs.Stores.{memOf, Sound, Made, none, one, makes, put-cells, used-after}
+use Rattle.rules.proofs.Stores.{memOf, Sound, Made, none, one, makes, put-cells, used-after, groups-after}
 
 -- ---- a word is read back as it was laid
 
@@ -21,18 +24,45 @@ pub reach-small : (k : Kind) → reach k ≤ 16384
 reach-small cpu = lit≤ tt
 reach-small vdp = lit≤ tt
 reach-small register = lit≤ tt
+reach-small grom = lit≤ tt
+
+-- a bit that is set in a byte is one of its eight
+bit-of-byte : (n w : ℕ) → w < 256 → bit n w ≡ true → n < 8
+unfolding bit
+bit-of-byte n w h e = go (ltb n 8) refl
+  where
+    go : (c : Bool) → ltb n 8 ≡ c → n < 8
+    go true l = ltb-true n 8 l
+    go false l =
+        let big : 2 ^ 8 ≤ 2 ^ n = pow-mono (ltb-false n 8 l) in
+        let none : w / 2 ^ n ≡ 0 = div-eq-of-lt (lt-of-lt-of-le h big) in
+        absurd (omega (arith, eqb-true (w / 2 ^ n % 2) 1 e))
+
+pub bit-beyond : (n w : ℕ) → w < 256 → 8 ≤ n → bit n w ≡ false
+bit-beyond n w h l = go (bit n w) refl
+  where
+    go : (c : Bool) → bit n w ≡ c → c ≡ false
+    go true e = absurd (omega (arith, bit-of-byte n w h e))
+    go false e = refl
+
+-- so a cell that may be stored into has an address of 16 bits
+pub stored-small : (z : Area) (k : Kind) (a : ℕ) → z .groups < 256 → a < extent z k → writable z k a ≡ true → a < 65536
+stored-small z cpu a b h e = omega arith
+stored-small z vdp a b h e = omega arith
+stored-small z register a b h e = omega arith
+stored-small z grom a b h e = omega (arith, bit-of-byte (a / 8192) (z .groups) b e)
 
 pub noteOf-kind : (k : Kind) (low : ℕ) → noteOf (kindNumber k) low ≡ stoodIn k low
 noteOf-kind cpu low = refl
 noteOf-kind vdp low = refl
 noteOf-kind register low = refl
+noteOf-kind grom low = refl
 
-pub note-word : (k : Kind) (a b : ℕ) → a < reach k → b < 256 → note (word k a b) ≡ stood k a b
+pub note-word : (k : Kind) (a b : ℕ) → a < 65536 → b < 256 → note (word k a b) ≡ stood k a b
 unfolding note word
 note-word k a b h l =
-    let s : reach k ≤ 16384 = reach-small k in
-    let top : (kindNumber k * 2 ^ 30 + a * 256 + b) / 2 ^ 30 ≡ kindNumber k = omega arith in
-    let low : (kindNumber k * 2 ^ 30 + a * 256 + b) % 2 ^ 30 ≡ a * 256 + b = omega arith in
+    let top : (kindNumber k * 2 ^ 29 + a * 256 + b) / 2 ^ 29 ≡ kindNumber k = omega arith in
+    let low : (kindNumber k * 2 ^ 29 + a * 256 + b) % 2 ^ 29 ≡ a * 256 + b = omega arith in
     let x : (a * 256 + b) / 256 ≡ a = omega arith in
     let y : (a * 256 + b) % 256 ≡ b = omega arith in
     ap₂ noteOf top low ∙ noteOf-kind k (a * 256 + b) ∙ ap₂ (stood k) x y
@@ -40,8 +70,8 @@ note-word k a b h l =
 pub note-mark : (pc : ℕ) → pc < 65536 → note (markWord pc) ≡ mark pc
 unfolding note markWord
 note-mark pc h =
-    let top : (3 * 2 ^ 30 + pc) / 2 ^ 30 ≡ 3 = omega arith in
-    let low : (3 * 2 ^ 30 + pc) % 2 ^ 30 ≡ pc = omega arith in
+    let top : (3 * 2 ^ 29 + pc) / 2 ^ 29 ≡ 3 = omega arith in
+    let low : (3 * 2 ^ 29 + pc) % 2 ^ 29 ≡ pc = omega arith in
     rw (top, low)
 
 -- ---- bytes stay bytes
@@ -54,8 +84,10 @@ bytes-set (x ∷ xs) (suc j) b h l zero = h zero
 bytes-set (x ∷ xs) (suc j) b h l (suc i) = bytes-set xs j b (λ n. h (suc n)) l i
 
 bytes-put : (l : Kind) (a b : ℕ) (m : Mem) → b < 256 → Bytes m → Bytes (put l a b m)
-bytes-put l a b m x h k n =
-    put-cells (λ y z. ((i : ℕ) → getD z i 0 < 256) → (i : ℕ) → getD y i 0 < 256) (λ y p. p) a b (λ y p. bytes-set y a b p x) k l m (h k) n
+bytes-put l a b m x h = (
+  λ k n. put-cells (λ y z. ((i : ℕ) → getD z i 0 < 256) → (i : ℕ) → getD y i 0 < 256) (λ y p. p) a b (λ y p. bytes-set y a b p x) k l m (h .0 k) n,
+  h .1,
+)
 
 bytes-make : (s : Store) (m : Mem) → Sound s m → Bytes m → Bytes (make s m)
 bytes-make s m h b = bytes-put (s .kind) (s .at) (s .new) m (h .byte) b
@@ -65,11 +97,12 @@ bytes-after none b = b
 bytes-after {m} (one {s} h t) b = bytes-after t (bytes-make s m h b)
 
 old-byte : (s : Store) (m : Mem) → Sound s m → Bytes m → s .old < 256
-old-byte s m h b = rw (h .was) (b (s .kind) (s .at))
+old-byte s m h b = rw (h .was) (b .0 (s .kind) (s .at))
 
 -- so the word of a store that was made is read back
 pub note-store : (s : Store) (m : Mem) → Sound s m → Bytes m → note (wordOf s) ≡ stood (s .kind) (s .at) (s .old)
-note-store s m h b = note-word (s .kind) (s .at) (s .old) (h .inside) (old-byte s m h b)
+note-store s m h b =
+    note-word (s .kind) (s .at) (s .old) (stored-small (area m) (s .kind) (s .at) (b .1) (h .inside) (h .allowed)) (old-byte s m h b)
 
 -- ---- which words `blank` sets to 0
 
@@ -116,9 +149,13 @@ set-blank (suc n) i l j w z h =
 -- ---- the rollback: from the top word down, each word's cell gets back what stood there
 
 put-back : (k : Kind) (a b : ℕ) (m : Mem) → put k a (getD (cells k m) a 0) (put k a b m) ≡ m
-put-back cpu a b m = ap (λ (l : List ℕ). mem (m .image) l (m .vram) (m .regs) (m .journal) (m .used)) (set-set (m .pad) a b _ ∙ set-getD (m .pad) a 0)
-put-back vdp a b m = ap (λ (l : List ℕ). mem (m .image) (m .pad) l (m .regs) (m .journal) (m .used)) (set-set (m .vram) a b _ ∙ set-getD (m .vram) a 0)
-put-back register a b m = ap (λ (l : List ℕ). mem (m .image) (m .pad) (m .vram) l (m .journal) (m .used)) (set-set (m .regs) a b _ ∙ set-getD (m .regs) a 0)
+put-back k a b m = go k (set-set (cells k m) a b _ ∙ set-getD (cells k m) a 0)
+  where
+    go : (k : Kind) → set (set (cells k m) a b) a (getD (cells k m) a 0) ≡ cells k m → put k a (getD (cells k m) a 0) (put k a b m) ≡ m
+    go cpu e = ap (λ (l : List ℕ). mem (m .image) (m .groups) l (m .vram) (m .regs) (m .journal) (m .used)) e
+    go vdp e = ap (λ (l : List ℕ). mem (m .image) (m .groups) (m .pad) l (m .regs) (m .journal) (m .used)) e
+    go register e = ap (λ (l : List ℕ). mem (m .image) (m .groups) (m .pad) (m .vram) l (m .journal) (m .used)) e
+    go grom e = ap (λ (l : List ℕ). mem l (m .groups) (m .pad) (m .vram) (m .regs) (m .journal) (m .used)) e
 
 pub restore-beside : (x : Note) (j : List ℕ) (u : ℕ) (m : Mem) → restore x (beside j u m) ≡ beside j u (restore x m)
 restore-beside (stood k a b) j u m = refl

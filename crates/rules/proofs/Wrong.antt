@@ -27,7 +27,7 @@ refuses-everything {s} f e d = go (d .cause)
 
 -- one fixed answer, 2: a machine without an image is to be refused with 11
 nowhere : State
-nowhere = state 0 (mem [] [] [] [] [] 0)
+nowhere = state 0 (mem [] 0 [] [] [] [] 0)
 
 pub answers-2 : (a : ℕ) → ((s : State) → Demand1 s (saying 2 a) s) → ⊥
 unfolding nowhere imageFits _also_

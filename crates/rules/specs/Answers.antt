@@ -31,6 +31,8 @@ pub data Why : Type 0 where
   offRegister : Why
   -- 02, item 3: "granularity above 7"
   tooCoarse : Why
+  -- 02, item 9: "group not writable"
+  readOnly : Why
 
 -- the answer's number
 abbrev pub number : Why → ℕ
@@ -47,6 +49,7 @@ number wrongLength = 11
 number noRecord = 12
 number offRegister = 13
 number tooCoarse = 23
+number readOnly = 24
 
 -- 02, item 2: "It is 0 for every other answer"
 abbrev pub address : Why → ℕ
@@ -63,6 +66,7 @@ address wrongLength = 0
 address noRecord = 0
 address offRegister = 0
 address tooCoarse = 0
+address readOnly = 0
 
 -- what a call says: its number, and the address that "must come out with the refusal"
 pub record Answer : Type 0 where
@@ -81,4 +85,4 @@ answerFor why = saying (number why) (address why)
 
 -- the refusal of an address that names no cell
 abbrev pub outside : Kind → ℕ → Why
-outside k a = upon k (offCpu a) (offVdp a) offRegister
+outside k a = upon k (offCpu a) (offVdp a) offRegister (offGrom a)

@@ -4,7 +4,7 @@ use mathlib.Core.List.{List, []}
 use Prim.Native.Nat.{ℕ, zero, suc, _+_, _-_, _*_, _%_}
 use lib.Dec.{leb, eqb}
 use lib.ListN.{length, getD, take, drop}
-use Rattle.rules.specs.Machine.{pick, _also_, Kind, cpu, vdp, register, size, reach, group, Mem, State, state}
+use Rattle.rules.specs.Machine.{pick, _also_, Kind, cpu, vdp, register, size, reach, group, Area, Mem, area, State, state}
 use Rattle.rules.specs.Answers.{Answer, well, answerFor, noRoom, wrongLength, noRecord}
 use Rattle.rules.specs.Journal.{markWord, lay, Store, Note, stood, mark, nothing, note, sound, undo, blanked}
 use Rattle.rules.specs.Rules.{Out, got, stopped, then, after, room, next, perform, stores, storesThen}
@@ -21,13 +21,8 @@ imageFits n = eqb (n % group) 0 also leb group n also leb n (8 * group)
 unfoldable pub partsFit : ℕ → ℕ → ℕ → ℕ → ℕ → Bool
 partsFit p v r j u = eqb p (size cpu) also eqb v (size vdp) also eqb r (size register) also leb j 1048576 also leb u j
 
--- of a step back, which is lent no image
-abbrev pub memFits : Mem → Bool
-memFits m = partsFit (length (m .pad)) (length (m .vram)) (length (m .regs)) (length (m .journal)) (m .used)
-
--- of every other call
 abbrev pub fits : Mem → Bool
-fits m = imageFits (length (m .image)) also memFits m
+fits m = imageFits (length (m .image)) also partsFit (length (m .pad)) (length (m .vram)) (length (m .regs)) (length (m .journal)) (m .used)
 
 -- ---- a step
 
@@ -128,13 +123,13 @@ passed (mark pc) f = found 1 pc
 passed nothing f = lost
 
 -- an unsound one ends the search
-abbrev pub seen : Note → Find → Find
-seen x f = pick (sound x) (passed x f) lost
+abbrev pub seen : Area → Note → Find → Find
+seen z x f = pick (sound z x) (passed x f) lost
 
 -- "no mark lies below the used count, or a word of that record names no cell": then nothing is found. "Setting used to 0 forgets."
-unfoldable pub scan : ℕ → List ℕ → Find
-scan zero j = lost
-scan (suc u) j = seen (note (getD j u 0)) (scan u j)
+unfoldable pub scan : Area → ℕ → List ℕ → Find
+scan z zero j = lost
+scan z (suc u) j = seen z (note (getD j u 0)) (scan z u j)
 
 -- "Step-back takes words from the top down to the newest mark, restores each, sets pc, zeroes them. It answers 12, touching nothing, exactly if .."
 abbrev pub backTo : Find → State → Reply
@@ -142,11 +137,11 @@ backTo (found n pc) s = done (state pc (undo n (s .mem)))
 backTo lost s = refused (answerFor noRecord) s
 
 unfoldable pub fitBack : State → Reply
-fitBack s = backTo (scan (s .mem .used) (s .mem .journal)) s
+fitBack s = backTo (scan (area (s .mem)) (s .mem .used) (s .mem .journal)) s
 
 -- 11 first
 unfoldable pub stepBack : State → Reply
-stepBack s = pick (memFits (s .mem)) (fitBack s) (refused (answerFor wrongLength) s)
+stepBack s = pick (fits (s .mem)) (fitBack s) (refused (answerFor wrongLength) s)
 
 -- ---- the viewer
 

@@ -69,7 +69,7 @@ allHold (h ∷ hs) m = eqb (getD (cells (h .kind) m) (h .at) 0) (h .byte) also a
 -- "Code at 0, other cells 0, >73 = >7E unless said": an image of one group, and a journal of 1,024 words
 abbrev pub bench : List Code → Mem
 bench codes =
-    put cpu subPointer 0x7E (mem (burnt codes (replicate group 0)) (replicate (size cpu) 0) (replicate (size vdp) 0) (replicate (size register) 0)
+    put cpu subPointer 0x7E (mem (burnt codes (replicate group 0)) 0 (replicate (size cpu) 0) (replicate (size vdp) 0) (replicate (size register) 0)
     (replicate 1024 0) 0)
 
 abbrev pub comesOut : Case → Report → Bool

@@ -4,16 +4,17 @@ use mathlib.Core.Bool.{true, false}
 use mathlib.Core.List.{List, [], _∷_, _++_, map}
 use Prim.Native.Nat.{ℕ, zero, suc, _+_, _-_, _<_}
 use lib.ListN.{length, getD, take}
-use Rattle.rules.specs.Machine.{pick, Kind, Mem, State, cells}
+use Rattle.rules.specs.Machine.{pick, Kind, Mem, area, State, cells}
 use Rattle.rules.specs.Answers.{Why, Answer, well, answerFor, wrongLength, noRecord}
 use Rattle.rules.specs.Journal.{markWord, wordOf, blank}
 use Rattle.rules.specs.Rules.{Out, got, stopped}
-use Rattle.rules.specs.Calls.{memFits, fits, Reply, done, refused, left, attempt, step, stepStores, lost, scan, stepBack, Report, report}
+use Rattle.rules.specs.Calls.{fits, Reply, done, refused, left, attempt, step, stepStores, lost, scan, stepBack, Report, report}
 
 -- ---- what is supposed: no more than the types of a byte and of a 16-bit number give
 
+-- every cell holds a byte, and the writable groups are named by one
 abbrev pub Bytes : Mem → Type 0
-Bytes m = (k : Kind) (n : ℕ) → getD (cells k m) n 0 < 256
+Bytes m = ((k : Kind) (n : ℕ) → getD (cells k m) n 0 < 256) × (m .groups < 256)
 
 pub record Good (s : State) : Type 0 where
   pub address : s .pc < 65536
@@ -55,7 +56,7 @@ pub record Demand1 (s : State) (a : Answer) (t : State) : Type 0 where
   -- "gives exactly the refusal that document 01 lists for that input"
   pub cause : Cause s a
   pub listed : Listed a
-  -- "A refused step returns program address, CPU RAM, VDP RAM and VDP registers to their values before it"
+  -- "A refused step returns program address, CPU RAM, VDP RAM and VDP registers to their values before it"; 02, item 9: "returns the image too"
   pub address : t .pc ≡ s .pc
   pub memories : (k : Kind) → cells k (t .mem) ≡ cells k (s .mem)
   pub used : t .mem .used ≡ s .mem .used
@@ -64,8 +65,8 @@ pub record Demand1 (s : State) (a : Answer) (t : State) : Type 0 where
 
 -- why a step back of s is refused with an answer: test 11 fails, or no sound record is found
 pub data BackCause (s : State) : Answer → Type 0 where
-  wrong-parts : memFits (s .mem) ≡ false → BackCause s (answerFor wrongLength)
-  no-record : memFits (s .mem) ≡ true → scan (s .mem .used) (s .mem .journal) ≡ lost → BackCause s (answerFor noRecord)
+  wrong-parts : fits (s .mem) ≡ false → BackCause s (answerFor wrongLength)
+  no-record : fits (s .mem) ≡ true → scan (area (s .mem)) (s .mem .used) (s .mem .journal) ≡ lost → BackCause s (answerFor noRecord)
 
 -- ---- demand 2
 
@@ -137,9 +138,11 @@ pub data Ends (n : ℕ) (s : State) : Report → Type 0 where
 -- What is so after any sequence of calls from s₀ that has come to the state s, with n steps accepted and not taken back:
 pub record Demand3 (s₀ : State) (n : ℕ) (s : State) : Type 0 where
   pub accepted : AllAccepted n s₀
-  -- "the address and the memories are those reached by only the accepted steps not taken back"
+  -- "the address and the memories are those reached by only the accepted steps not taken back"; 02, item 9: "the image among the memories"
   pub address : s .pc ≡ forward n s₀ .pc
   pub memories : (k : Kind) → cells k (s .mem) ≡ cells k (forward n s₀ .mem)
+  -- 02, item 9: "one set of writable groups"
+  pub groups : s .mem .groups ≡ s₀ .mem .groups
   -- "The journal then uses one word for each such step and one for each store that it made": these words, and no others
   pub used : s .mem .used ≡ n + total n s₀
   pub words : take (s .mem .used) (s .mem .journal) ≡ records n s₀

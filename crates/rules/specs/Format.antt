@@ -70,7 +70,7 @@ repeatText n step bias = do
   showTimes n step (biased bias ch)
 
 abbrev pub isCpu : Kind → Bool
-isCpu k = upon k true false false
+isCpu k = upon k true false false false
 
 -- "a CPU operand": 4 for "a format operand decoded to a VDP cell", with "its VDP cell" for the address
 unfoldable pub cpuOperand : Rule ℕ

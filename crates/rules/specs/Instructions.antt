@@ -2,7 +2,7 @@
 use mathlib.Core.Bool.{Bool, true, false}
 use Prim.Native.Nat.{ℕ, zero, suc, _+_, _-_, _*_, _/_, _%_}
 use lib.Dec.{leb, eqb}
-use Rattle.rules.specs.Machine.{pick, _also_, bit, cpu, vdp, register, upon, group, joined, lowByte, dataPointer, subPointer, randomNumber, status, ypt, xpt, seedCell, registerCopy}
+use Rattle.rules.specs.Machine.{pick, _also_, bit, cpu, vdp, register, grom, upon, group, joined, lowByte, dataPointer, subPointer, randomNumber, status, ypt, xpt, seedCell, registerCopy}
 use Rattle.rules.specs.Answers.{offStack}
 use Rattle.rules.specs.Rules.{Rule, Deed, give, _>>=_, _>>_, nextByte, nextWord, gromByte, here, goto, peek, peekWord, poke, need}
 use Rattle.rules.specs.Operands.{Width, byteCount, Cell, cell, past, within, onDataStack, operand, place, indexed, standing, value, pokeWord, result, operandValue, source}
@@ -250,37 +250,35 @@ registerCell = do
   n ← nextByte
   give (cell register n)
 
--- "destination (bit 3: a register number)"
-unfoldable pub moveTarget : Bool → Rule Cell
-moveTarget reg = pick reg registerCell place
-
--- where a MOVE's bytes come from
-pub data From : Type 0 where
-  fromGrom : ℕ → From
-  fromCell : Cell → From
-
-unfoldable pub gromSource : Bool → Rule From
-gromSource x = do
+-- "a two-byte GROM address, with .. a further byte naming a pad word to add"
+unfoldable pub gromCell : Bool → Rule Cell
+gromCell x = do
   a ← nextWord
   e ← indexed x a
-  give (fromGrom e)
+  give (cell grom e)
 
-unfoldable pub cellSource : Rule From
-cellSource = do
-  c ← place
-  give (fromCell c)
+-- "destination (bit 3: a register number)"
+unfoldable pub ramTarget : Bool → Rule Cell
+ramTarget reg = pick reg registerCell place
+
+-- 02, item 9: of >20 to >25, which lack the bit of >30, "the destination being a two-byte address"
+unfoldable pub moveTarget : Bool → Bool → Rule Cell
+moveTarget ram reg = pick ram (ramTarget reg) (gromCell false)
 
 -- "source (bit 2: operand; else a two-byte GROM address, with bit 1 a further byte naming a pad word to add)"
-unfoldable pub moveSource : Bool → Bool → Rule From
-moveSource o x = pick o cellSource (gromSource x)
+unfoldable pub moveSource : Bool → Bool → Rule Cell
+moveSource o x = pick o place (gromCell x)
 
--- the byte k further on. "GROM source addresses count in 16 bits."
-unfoldable pub sourceByte : From → ℕ → Rule ℕ
-sourceByte (fromGrom a) k = gromByte ((a + k) % 65536)
-sourceByte (fromCell c) k = peek (c .kind) (c .at + k)
+-- the cell k further on. "GROM source addresses count in 16 bits." 02, item 9: so does a destination in GROM
+abbrev pub beyond : ℕ → Cell → Cell
+beyond k c = cell (c .kind) (upon (c .kind) (c .at + k) (c .at + k) (c .at + k) ((c .at + k) % 65536))
+
+-- the byte there
+unfoldable pub sourceByte : Cell → ℕ → Rule ℕ
+sourceByte f k = peek (beyond k f .kind) (beyond k f .at)
 
 abbrev pub isRegisterOne : Cell → Bool
-isRegisterOne c = upon (c .kind) false false (eqb (c .at) 1)
+isRegisterOne c = upon (c .kind) false false (eqb (c .at) 1) false
 
 -- "A byte for register 1 has bit >80 set (16 KiB, *own rule*) and goes to >D4 first, then to the register."
 unfoldable pub registerOne : ℕ → Deed
@@ -292,13 +290,13 @@ unfoldable pub deliver : Cell → ℕ → Deed
 deliver c b = pick (isRegisterOne c) (registerOne b) (poke (c .kind) (c .at) b)
 
 -- the byte k further on, from one place to the other
-unfoldable pub moveByte : From → Cell → ℕ → Deed
+unfoldable pub moveByte : Cell → Cell → ℕ → Deed
 moveByte f c k = do
   b ← sourceByte f k
-  deliver (past k c) b
+  deliver (beyond k c) b
 
 -- "bytes go one by one": n of them, from k on
-unfoldable pub moveBytes : ℕ → ℕ → From → Cell → Deed
+unfoldable pub moveBytes : ℕ → ℕ → Cell → Cell → Deed
 moveBytes zero k f c = give tt
 moveBytes (suc n) k f c = do
   moveByte f c k
@@ -312,7 +310,7 @@ moveCount l = pick (within 1 0x8000 l) l 1
 unfoldable pub moveRule : ℕ → Deed
 moveRule bits = do
   l ← moveLength (bit 0 bits)
-  c ← moveTarget (bit 3 bits)
+  c ← moveTarget (bit 4 bits) (bit 3 bits)
   f ← moveSource (bit 2 bits) (bit 1 bits)
   pushPc
   moveBytes (moveCount l) 0 f c

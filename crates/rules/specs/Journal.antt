@@ -4,19 +4,22 @@ use mathlib.Core.List.{List}
 use Prim.Native.Nat.{ℕ, zero, suc, _+_, _*_, _/_, _%_, _^_}
 use lib.Dec.{ltb}
 use lib.ListN.{getD, set}
-use Rattle.rules.specs.Machine.{Kind, cpu, vdp, register, upon, reach, Mem, cells, put, beside}
+use Rattle.rules.specs.Machine.{_also_, Kind, cpu, vdp, register, grom, upon, Area, extent, writable, Mem, cells, put, beside}
 
--- ---- "Journal words: kind times 2^30, plus for kinds 0 (CPU), 1 (VDP), 2 (register) the address times 256 plus the byte that stood there"
+-- ---- "Journal words: kind times .., plus for kinds 0 (CPU), 1 (VDP), 2 (register) the address times 256 plus the byte that stood there"
 
+-- 02, item 9: "a fourth memory, kind 4"
 abbrev pub kindNumber : Kind → ℕ
-kindNumber k = upon k 0 1 2
+kindNumber k = upon k 0 1 2 4
+
+-- "so its words change: kind times 2^29"
 
 unfoldable pub word : Kind → ℕ → ℕ → ℕ
-word k a b = kindNumber k * 2 ^ 30 + a * 256 + b
+word k a b = kindNumber k * 2 ^ 29 + a * 256 + b
 
 -- "kind 3 is a mark and carries the old pc in its low 16 bits"
 unfoldable pub markWord : ℕ → ℕ
-markWord pc = 3 * 2 ^ 30 + pc
+markWord pc = 3 * 2 ^ 29 + pc
 
 -- ---- a store
 
@@ -51,26 +54,28 @@ pub data Note : Type 0 where
   -- there is no such kind
   nothing : Note
 
--- of a word below kind 3, by the thirty bits under its kind: the address is all that stands above the byte
+-- of a store's word, by the 29 bits under its kind: the address is all that stands above the byte
 abbrev pub stoodIn : Kind → ℕ → Note
 stoodIn k low = stood k (low / 256) (low % 256)
 
--- by its kind and the thirty bits under it
+-- by its kind and the 29 bits under it
 abbrev pub noteOf : ℕ → ℕ → Note
 noteOf zero low = stoodIn cpu low
 noteOf (suc zero) low = stoodIn vdp low
 noteOf (suc (suc zero)) low = stoodIn register low
 noteOf (suc (suc (suc zero))) low = mark low
-noteOf (suc (suc (suc (suc n)))) low = nothing
+noteOf (suc (suc (suc (suc zero)))) low = stoodIn grom low
+noteOf (suc (suc (suc (suc (suc n))))) low = nothing
 
 unfoldable pub note : ℕ → Note
-note w = noteOf (w / 2 ^ 30) (w % 2 ^ 30)
+note w = noteOf (w / 2 ^ 29) (w % 2 ^ 29)
 
--- not "names no cell (pad above >DF, register above 7, VDP above >3FFF) or has a surplus bit": a surplus bit of a store's word is an address out of reach
-abbrev pub sound : Note → Bool
-sound (stood k a b) = ltb a (reach k)
-sound (mark pc) = ltb pc 65536
-sound nothing = false
+-- not "names no cell (pad above >DF, register above 7, VDP above >3FFF) or has a surplus bit": a surplus bit of a store's word is an address out of reach.
+-- 02, item 9: nor of "kinds 5 to 7 and kind 4 outside those groups or beyond the image"
+abbrev pub sound : Area → Note → Bool
+sound z (stood k a b) = ltb a (extent z k) also writable z k a
+sound z (mark pc) = ltb pc 65536
+sound z nothing = false
 
 -- ---- words taken off: "takes words from the top down .., restores each, .. zeroes them"
 

@@ -13,3 +13,4 @@ pub mod Tasks
 pub mod Calls
 pub mod Demands
 pub mod Cards
+pub mod Gram

@@ -3,7 +3,7 @@ use mathlib.Core.Bool.{Bool, true, false}
 use mathlib.Core.List.{List}
 use Prim.Native.Nat.{ℕ, _+_, _*_, _/_, _%_, _^_}
 use lib.Dec.{eqb}
-use lib.ListN.{set}
+use lib.ListN.{length, set}
 
 -- one of two, by a test
 abbrev pub pick : {A : Type 0} → Bool → A → A → A
@@ -22,39 +22,60 @@ bit n x = eqb (x / 2 ^ n % 2) 1
 
 -- ---- the parts
 
--- "CPU RAM ("pad", >8300 up)", "VDP RAM", "VDP registers"
+-- "CPU RAM ("pad", >8300 up)", "VDP RAM", "VDP registers"; and 02, item 9, "count the image among the memories": "a fourth memory"
 pub data Kind : Type 0 where
-  cpu vdp register : Kind
+  cpu vdp register grom : Kind
 
--- one of three, by the kind
-abbrev pub upon : {A : Type 0} → Kind → A → A → A → A
-upon cpu x y z = x
-upon vdp x y z = y
-upon register x y z = z
-
--- "256 bytes", "16,384 bytes", "8 bytes"
-abbrev pub size : Kind → ℕ
-size k = upon k 256 16384 8
-
--- "a program may reach offsets >00 to >DF": how many cells of each kind it may reach
-abbrev pub reach : Kind → ℕ
-reach k = upon k 0xE0 16384 8
+-- one of four, by the kind
+abbrev pub upon : {A : Type 0} → Kind → A → A → A → A → A
+upon cpu x y z t = x
+upon vdp x y z t = y
+upon register x y z t = z
+upon grom x y z t = t
 
 -- "1 to 8 groups of 8,192 bytes, from address 0"
 abbrev pub group : ℕ
 group = 8192
 
--- "GROM image, read only", the three memories, and "Journal | 0 to 1,048,576 words of 32 bits, and a used count"
+-- "256 bytes", "16,384 bytes", "8 bytes"; of an image the most
+abbrev pub size : Kind → ℕ
+size k = upon k 256 16384 8 (8 * group)
+
+-- "a program may reach offsets >00 to >DF": how many cells of each kind an operand may name. It names none of GROM.
+abbrev pub reach : Kind → ℕ
+reach k = upon k 0xE0 16384 8 0
+
+-- what of GROM there is: how many bytes, and 02, item 9, the "groups named writable by the caller": a byte, bit g for group g
+pub record Area : Type 0 where
+  pub bytes : ℕ
+  pub groups : ℕ
+
+abbrev pub areaOf : ℕ → ℕ → Area
+areaOf n w = record { bytes = n; groups = w }
+
+-- how many cells of each kind a rule may reach
+abbrev pub extent : Area → Kind → ℕ
+extent z k = upon k 0xE0 16384 8 (z .bytes)
+
+-- a cell that may be stored into: of GROM, one in a group named writable
+abbrev pub writable : Area → Kind → ℕ → Bool
+writable z k a = upon k true true true (bit (a / group) (z .groups))
+
+-- "GROM image" and its writable groups, the other memories, and "Journal | 0 to 1,048,576 words of 32 bits, and a used count"
 pub record Mem : Type 0 where
   pub image : List ℕ
+  pub groups : ℕ
   pub pad : List ℕ
   pub vram : List ℕ
   pub regs : List ℕ
   pub journal : List ℕ
   pub used : ℕ
 
-abbrev pub mem : List ℕ → List ℕ → List ℕ → List ℕ → List ℕ → ℕ → Mem
-mem i p v r j u = record { image = i; pad = p; vram = v; regs = r; journal = j; used = u }
+abbrev pub mem : List ℕ → ℕ → List ℕ → List ℕ → List ℕ → List ℕ → ℕ → Mem
+mem i w p v r j u = record { image = i; groups = w; pad = p; vram = v; regs = r; journal = j; used = u }
+
+abbrev pub area : Mem → Area
+area m = areaOf (length (m .image)) (m .groups)
 
 -- "Program address (pc) | 16 bits"
 pub record State : Type 0 where
@@ -66,17 +87,18 @@ state pc m = record { pc = pc; mem = m }
 
 -- the cells of one kind
 abbrev pub cells : Kind → Mem → List ℕ
-cells k m = upon k (m .pad) (m .vram) (m .regs)
+cells k m = upon k (m .pad) (m .vram) (m .regs) (m .image)
 
 -- the same machine with a byte in a cell
 abbrev pub put : Kind → ℕ → ℕ → Mem → Mem
 put k a b m =
-    mem (m .image) (upon k (set (m .pad) a b) (m .pad) (m .pad)) (upon k (m .vram) (set (m .vram) a b) (m .vram))
-    (upon k (m .regs) (m .regs) (set (m .regs) a b)) (m .journal) (m .used)
+    mem (upon k (m .image) (m .image) (m .image) (set (m .image) a b)) (m .groups)
+    (upon k (set (m .pad) a b) (m .pad) (m .pad) (m .pad)) (upon k (m .vram) (set (m .vram) a b) (m .vram) (m .vram))
+    (upon k (m .regs) (m .regs) (set (m .regs) a b) (m .regs)) (m .journal) (m .used)
 
 -- the same cells beside another journal
 abbrev pub beside : List ℕ → ℕ → Mem → Mem
-beside j u m = mem (m .image) (m .pad) (m .vram) (m .regs) j u
+beside j u m = mem (m .image) (m .groups) (m .pad) (m .vram) (m .regs) j u
 
 -- ---- how they count
 

@@ -23,7 +23,7 @@ pub data Task : Type 0 where
   -- B is the long branch
   rtn rtnc rand back long call all fmt : Task
   test : Test → Task
-  -- by its low four bits
+  -- by its low five bits
   move : ℕ → Task
   -- BS, taken if the condition is set, or BR; and the high five of its 13 bits
   branch : Bool → ℕ → Task
@@ -54,9 +54,13 @@ lowRows =
     ∷ does fmt ∷ does (test high) ∷ does (test greater) ∷ stops ended
     ∷ does (test carry) ∷ does (test overflow) ∷ stops noSuch ∷ stops needsHost ∷ []
 
+-- 02, item 9: "Opcodes >20 to >25 become MOVE into GROM"; ">26 to >2F still answer 2"
+unfoldable pub gramClass : ℕ → Class
+gramClass op = pick (ltb op 0x26) (does (move (op % 32))) (stops noSuch)
+
 -- ">30 to >3F MOVE"; ">36, >37, >3E, >3F .. answer 2"
 unfoldable pub moveClass : ℕ → Class
-moveClass op = pick (bit 2 op also bit 1 op) (stops noSuch) (does (move (op % 16)))
+moveClass op = pick (bit 2 op also bit 1 op) (stops noSuch) (does (move (op % 32)))
 
 -- "One operand: >80 ABS, >82 NEG, >84 INV, >86 CLR, >88 FETCH, >8A CASE, >8C PUSH, >8E CZ, >90 INC, >92 DEC, >94 INCT, >96 DECT."
 abbrev pub oneRows : Width → List Class
@@ -81,10 +85,11 @@ twoRows imm w =
 unfoldable pub classOf : ℕ → Class
 classOf op =
     pick (ltb op 0x10) (row op lowRows)
-    (pick (ltb op 0x30) (stops noSuch)
+    (pick (ltb op 0x20) (stops noSuch)
+    (pick (ltb op 0x30) (gramClass op)
     (pick (ltb op 0x40) (moveClass op)
     (pick (ltb op 0x60) (does (branch false (op % 32)))
     (pick (ltb op 0x80) (does (branch true (op % 32)))
     (pick (ltb op 0xA0) (row ((op - 0x80) / 2) (oneRows (bit 0 op)))
     (pick (ltb op 0xF4) (row ((op - 0xA0) / 4) (twoRows (bit 1 op) (bit 0 op)))
-    (pick (ltb op 0xF8) (stops needsHost) (stops noSuch))))))))
+    (pick (ltb op 0xF8) (stops needsHost) (stops noSuch)))))))))

@@ -148,7 +148,7 @@ toScreen b = do
 
 -- pad >7D
 abbrev pub isBuffer : Cell → Bool
-isBuffer c = upon (c .kind) (eqb (c .at) buffer) false false
+isBuffer c = upon (c .kind) (eqb (c .at) buffer) false false false
 
 unfoldable pub loadBuffer : Deed
 loadBuffer = do

@@ -1,11 +1,11 @@
--- How a rule is written: as a program over six actions, in `do` notation, so that an instruction can be read line by line beside its sentence.
+-- How a rule is written: as a program over five actions, in `do` notation, so that an instruction can be read line by line beside its sentence.
 use mathlib.Core.Bool.{Bool, true, false}
 use mathlib.Core.List.{List, [], _∷_, _++_}
 use Prim.Native.Nat.{ℕ, _+_, _%_}
 use lib.Dec.{ltb}
 use lib.ListN.{length, getD}
-use Rattle.rules.specs.Machine.{pick, Kind, reach, Mem, cells, onward, joined}
-use Rattle.rules.specs.Answers.{Why, Answer, answerFor, offGrom, noRoom, outside}
+use Rattle.rules.specs.Machine.{pick, Kind, grom, extent, writable, Mem, area, cells, onward, joined}
+use Rattle.rules.specs.Answers.{Why, Answer, answerFor, offGrom, noRoom, readOnly, outside}
 use Rattle.rules.specs.Journal.{Store, storeOf, make}
 
 -- ---- the language
@@ -14,8 +14,6 @@ use Rattle.rules.specs.Journal.{Store, storeOf, make}
 pub data Act : Type 0 where
   -- the byte at pc, which moves on
   next : Act
-  -- the GROM byte at an address
-  grom : ℕ → Act
   -- where pc is
   ask : Act
   -- pc set
@@ -62,16 +60,17 @@ then (stopped n m) k = stopped n m
 abbrev pub room : Mem → Bool
 room m = ltb (m .used) (length (m .journal))
 
--- one action on a program address and the memories. "For one store, 4, 5, .. or 13 comes before 10."
+-- one action on a program address and the memories. "For one store, 4, 5, .. or 13 comes before 10." 02, item 9: 24 "just after 6 for that byte, both before 10"
 unfoldable pub perform : Act → ℕ → Mem → Out ℕ
 perform next pc m = pick (ltb pc (length (m .image))) (got (getD (m .image) pc 0) (onward pc) m) (stopped (answerFor (offGrom pc)) m)
-perform (grom a) pc m = pick (ltb a (length (m .image))) (got (getD (m .image) a 0) pc m) (stopped (answerFor (offGrom a)) m)
 perform ask pc m = got pc pc m
 perform (jump a) pc m = got 0 (a % 65536) m
-perform (load k a) pc m = pick (ltb a (reach k)) (got (getD (cells k m) a 0) pc m) (stopped (answerFor (outside k a)) m)
+perform (load k a) pc m = pick (ltb a (extent (area m) k)) (got (getD (cells k m) a 0) pc m) (stopped (answerFor (outside k a)) m)
 perform (store k a b) pc m =
-    pick (ltb a (reach k))
+    pick (ltb a (extent (area m) k))
+    (pick (writable (area m) k a)
     (pick (room m) (got 0 pc (make (storeOf k a (b % 256) m) m)) (stopped (answerFor noRoom) m))
+    (stopped (answerFor readOnly) m))
     (stopped (answerFor (outside k a)) m)
 
 unfoldable pub exec : {A : Type 0} → Rule A → ℕ → Mem → Out A
@@ -92,11 +91,11 @@ valued v (stopped n m) = stopped n m
 
 unfoldable pub actStores : Act → Mem → List Store
 actStores next m = []
-actStores (grom a) m = []
 actStores ask m = []
 actStores (jump a) m = []
 actStores (load k a) m = []
-actStores (store k a b) m = pick (ltb a (reach k)) (pick (room m) (storeOf k a (b % 256) m ∷ []) []) []
+actStores (store k a b) m =
+    pick (ltb a (extent (area m) k)) (pick (writable (area m) k a) (pick (room m) (storeOf k a (b % 256) m ∷ []) []) []) []
 
 abbrev pub storesThen : {A : Type 0} → Out A → (A → ℕ → Mem → List Store) → List Store
 storesThen (got a pc m) f = f a pc m
@@ -112,9 +111,6 @@ stores (act q k) pc m = actStores q m ++ storesThen (perform q pc m) (λ v pc₁
 abbrev pub nextByte : Rule ℕ
 nextByte = act next give
 
-abbrev pub gromByte : ℕ → Rule ℕ
-gromByte a = act (grom a) give
-
 abbrev pub here : Rule ℕ
 here = act ask give
 
@@ -123,6 +119,10 @@ goto a = act (jump a) (λ _. give tt)
 
 abbrev pub peek : Kind → ℕ → Rule ℕ
 peek k a = act (load k a) give
+
+-- the GROM byte at an address
+abbrev pub gromByte : ℕ → Rule ℕ
+gromByte a = peek grom a
 
 abbrev pub poke : Kind → ℕ → ℕ → Deed
 poke k a b = act (store k a b) (λ _. give tt)

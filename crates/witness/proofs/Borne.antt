@@ -20,9 +20,9 @@ use Rattle.bench.proofs.Promises.{demand1, demand2, run-unfit, run-ends, step-b
 use Rattle.witness.specs.Demanded as demanded
 use Rattle.witness.specs.Demanded.{Home}
 
--- bytes are bytes, and an address has 16 bits: what the types give
-pub good-of : {i p v g j : List ℕ} {at : At} → at .pc < 65536 → AreBytes p → AreBytes v → AreBytes g → Good (stateAt i p v g j at)
-good-of {i} {p} {v} {g} {j} {at} l a b c = record { address = l; bytes = bytes-of (mem i p v g j (at .used)) a b c }
+-- bytes are bytes, an address has 16 bits and the groups eight: what the types give
+pub good-of : {i p v g j : List ℕ} {at : At} → at .pc < 65536 → at .writable < 256 → AreBytes i → AreBytes p → AreBytes v → AreBytes g → Good (stateAt i p v g j at)
+good-of {i} {p} {v} {g} {j} {at} l w d a b c = record { address = l; bytes = bytes-of (mem i (at .writable) p v g j (at .used)) w d a b c }
 
 -- an answer is 0, or not
 data Answer (n : ℕ) : Type 0 where
@@ -60,6 +60,10 @@ run-bears n {s} {x} e = go (fits (s .mem)) refl
     go : (c : Bool) → fits (s .mem) ≡ c → demanded.Run n s x
     go true f = demanded.fit f (run-ends n e f)
     go false f = demanded.unfit f (run-unfit n e f)
+
+-- which groups are writable plays no part in it
+pub any-groups : {s : State} {pc w x u : ℕ} {i p v g j : List ℕ} → Home s (state pc (mem i w p v g j u)) → Home s (state pc (mem i x p v g j u))
+any-groups h = record { address = h .address; memories = h .memories; used = h .used }
 
 -- an accepted step, and the step back from where it led
 pub home-back : {s : State} {x y : Returned walk.Reply} → Good s → Tells told stepping s x → x .result .answer ≡ 0 → Tells told backing

@@ -30,40 +30,40 @@ uncounted (refused a t) n h =
     let ne : a .number ≡ 0 → ⊥ = λ z. omega (arith, never-done (h .why), ap (λ (b : Answer). b .number) (h .is)) in
     rw (ne-eqb (a .number) 0 ne)
 
-heard-reply : (q : Reply) (n : ℕ) (x : Returned Numbers) → NamedReply q → heard x ≡ counted (outcome q n) → told (asReply x) ≡ outcome q n
+heard-reply : (w : ℕ) (q : Reply) (n : ℕ) (x : Returned Numbers) → NamedReply q → heard w x ≡ counted (outcome q n) → told (asReply w x) ≡ outcome q n
 unfolding heard counted replied
-heard-reply q n x h e = ap replied e ∙ uncounted q n h
+heard-reply w q n x h e = ap replied e ∙ uncounted q n h
 
 -- ---- each call
 
-module _ {s : State} {x : Returned Numbers} where
-  step-told : Tells heard oneStep s x → Tells told stepping s (asReply x)
-  step-told e = record { is = heard-reply (step s) (made s (step s)) x (named-step s) (e .is) }
+module _ (w : ℕ) {s : State} {x : Returned Numbers} where
+  step-told : Tells (heard w) oneStep s x → Tells told stepping s (asReply w x)
+  step-told e = record { is = heard-reply w (step s) (made s (step s)) x (named-step s) (e .is) }
 
-  back-told : Tells heard oneBack s x → Tells told backing s (asReply x)
-  back-told e = record { is = heard-reply (stepBack s) 0 x (named-back s) (e .is) }
+  back-told : Tells (heard w) oneBack s x → Tells told backing s (asReply w x)
+  back-told e = record { is = heard-reply w (stepBack s) 0 x (named-back s) (e .is) }
 
-  run-told : (n : ℕ) → Tells heard (run n) s x → Tells reported (run n) s (asReport x)
+  run-told : (n : ℕ) → Tells (heard w) (run n) s x → Tells reported (run n) s (asReport w x)
   unfolding heard
   run-told n e = record { is = e .is }
 
-  pub step-heard : Tells heard oneStep s x → demanded.Step s (asReply x)
+  pub step-heard : Tells (heard w) oneStep s x → demanded.Step s (asReply w x)
   step-heard e = step-bears (step-told e)
 
-  pub back-heard : Tells heard oneBack s x → demanded.Back s (asReply x)
+  pub back-heard : Tells (heard w) oneBack s x → demanded.Back s (asReply w x)
   back-heard e = back-bears (back-told e)
 
-  pub run-heard : (n : ℕ) → Tells heard (run n) s x → demanded.Run n s (asReport x)
+  pub run-heard : (n : ℕ) → Tells (heard w) (run n) s x → demanded.Run n s (asReport w x)
   run-heard n e = run-bears n (run-told n e)
 
 -- ---- any sequence of them
 
-as-called : {s₀ s : State} {l : List Said} → HostCalled s₀ l s → Called s₀ l s
+as-called : {w : ℕ} {s₀ s : State} {l : List Said} → HostCalled w s₀ l s → Called s₀ l s
 as-called hosted.no-call = no-call
-as-called (hosted.then-step h e) = then-step (as-called h) (step-told e)
-as-called (hosted.then-back h e) = then-back (as-called h) (back-told e)
-as-called (hosted.then-run n h e) = then-run n (as-called h) (run-told n e)
+as-called {w} (hosted.then-step h e) = then-step (as-called h) (step-told w e)
+as-called {w} (hosted.then-back h e) = then-back (as-called h) (back-told w e)
+as-called {w} (hosted.then-run n h e) = then-run n (as-called h) (run-told w n e)
 
 -- Demand 3, of the calls for C.
-pub demand3-heard : {s₀ s : State} {l : List Said} → Good s₀ → s₀ .mem .used ≡ 0 → HostCalled s₀ l s → Keeps s₀ (countOf l) s
+pub demand3-heard : {w : ℕ} {s₀ s : State} {l : List Said} → Good s₀ → s₀ .mem .used ≡ 0 → HostCalled w s₀ l s → Keeps s₀ (countOf l) s
 demand3-heard g z h = demand3 g z (as-called h)

@@ -4,7 +4,7 @@ use mathlib.Core.List.{List, [], _∷_}
 use Prim.Native.Nat.{ℕ, zero, suc, _-_, _<_}
 use native.Mathlib.Omega.{arith}
 use lib.ListN.{length, take}
-use Rattle.rules.specs.Machine.{cpu, vdp, register, Mem, mem, State, state, cells}
+use Rattle.rules.specs.Machine.{cpu, vdp, register, grom, Mem, mem, State, state, cells}
 use Rattle.rules.specs.Answers.{Answer}
 use Rattle.rules.specs.Journal.{Store}
 use Rattle.rules.specs.Calls.{Reply, done, refused, left, step, stepStores, stepBack, Report, run}
@@ -46,7 +46,7 @@ cleared {s} {t} a =
     let journals : keep (s .mem .used) (s .mem .journal) ≡ keep (t .mem .used) (t .mem .journal) =
     keep-same (s .mem .used) (s .mem .journal) (t .mem .journal) (a .room) (a .words ∙ ap (λ (u : ℕ). take u (t .mem .journal)) (sym (a .home .used)))
     ∙ ap (λ (u : ℕ). keep u (t .mem .journal)) (a .home .used) in
-    rw (a .home .address, a .image, a .home .memories cpu, a .home .memories vdp, a .home .memories register, journals, a .home .used)
+    rw (a .home .address, a .home .memories grom, a .groups, a .home .memories cpu, a .home .memories vdp, a .home .memories register, journals, a .home .used)
 
 pub alike : {s t : State} → clearS s ≡ clearS t → Alike s t
 alike {s} {t} e =
@@ -56,7 +56,7 @@ alike {s} {t} e =
         memories = λ k. ap (λ (x : State). cells k (x .mem)) e;
         used = ap (λ (x : State). x .mem .used) e;
       };
-      image = ap (λ (x : State). x .mem .image) e;
+      groups = ap (λ (x : State). x .mem .groups) e;
       room = sym (length-keep (s .mem .used) (s .mem .journal)) ∙ ap (λ (x : State). length (x .mem .journal)) e ∙ length-keep (t .mem .used) (t .mem .journal);
       words = sym (take-keep (s .mem .used) (s .mem .journal)) ∙ ap (λ (x : State). take (x .mem .used) (x .mem .journal)) e
           ∙ take-keep (t .mem .used) (t .mem .journal);

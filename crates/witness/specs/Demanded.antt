@@ -51,7 +51,7 @@ RepliesHome s x = Home s (leaves x)
 -- the same machine, but for the journal above the used words
 pub record Alike (s t : State) : Type 0 where
   pub home : Home t s
-  pub image : s .mem .image ≡ t .mem .image
+  pub groups : s .mem .groups ≡ t .mem .groups
   pub room : length (s .mem .journal) ≡ length (t .mem .journal)
   pub words : take (s .mem .used) (s .mem .journal) ≡ take (t .mem .used) (t .mem .journal)
 
@@ -72,8 +72,8 @@ StandsHome s x = Home s (standsAt x (x .result))
 -- ---- any sequence of calls, from an empty journal on
 
 -- "Setting used to 0 forgets."
-abbrev pub forgetting : ℕ → At
-forgetting pc = record { pc = pc; used = 0 }
+abbrev pub forgetting : ℕ → ℕ → At
+forgetting pc w = record { pc = pc; used = 0; writable = w }
 
 -- demand 3, of the steps that were counted
 abbrev pub KeptSteps : State → Returned Kept → Type 0

@@ -19,41 +19,42 @@ use Rattle.export.specs.Meaning.{Numbers, heard, oneStep, oneBack, bytesOf, sho
 abbrev pub beside : {A B : Type 0} → (A → B) → Returned A → Returned B
 beside f x = returned (x .image) (x .pad) (x .vram) (x .regs) (x .journal) (f (x .result))
 
--- `out` has pc, used words, steps, stores and address, in this order
-abbrev pub atOf : Numbers → At
-atOf n = record { pc = getD (n .out) 0 0; used = getD (n .out) 1 0 }
+-- `out` has pc, used words, steps, stores and address, in this order; the writable groups are those that the host has lent
+abbrev pub atOf : ℕ → Numbers → At
+atOf w n = record { pc = getD (n .out) 0 0; used = getD (n .out) 1 0; writable = w }
 
-abbrev pub asReply : Returned Numbers → Returned Reply
-asReply = beside (λ n. record { answer = n .answer; address = getD (n .out) 4 0; stores = getD (n .out) 3 0; at = atOf n })
+abbrev pub asReply : ℕ → Returned Numbers → Returned Reply
+asReply w = beside (λ n. record { answer = n .answer; address = getD (n .out) 4 0; stores = getD (n .out) 3 0; at = atOf w n })
 
-abbrev pub asReport : Returned Numbers → Returned Report
-asReport = beside (λ n. record { answer = n .answer; address = getD (n .out) 4 0; steps = getD (n .out) 2 0; stores = getD (n .out) 3 0; at = atOf n })
+abbrev pub asReport : ℕ → Returned Numbers → Returned Report
+asReport w = beside (λ n. record { answer = n .answer; address = getD (n .out) 4 0; steps = getD (n .out) 2 0; stores = getD (n .out) 3 0; at = atOf w n })
 
 -- what a call was lent, and what it hands back, whatever the rest of the machine is
-abbrev pub HandsBack : (State → Returned Numbers → Type 0) → (Parts → Parts) → ℕ → ℕ → ℕ → Lent → Type 0
-HandsBack D parts pc used answer out =
-    (rest : Rest (parts unseenAll)) → D (lentTo (parts unseenAll) rest (record { pc = pc; used = used }))
+abbrev pub HandsBack : (State → Returned Numbers → Type 0) → (Parts → Parts) → ℕ → ℕ → ℕ → ℕ → Lent → Type 0
+HandsBack D parts pc used w answer out =
+    (rest : Rest (parts unseenAll)) → D (lentTo (parts unseenAll) rest (record { pc = pc; used = used; writable = w }))
     (returnedOf (memAfter (parts unseenAll) rest used) (record { answer = answer; out = now (out .exit) }))
 
-abbrev pub RepliesIn : (State → Returned Reply → Type 0) → (Parts → Parts) → ℕ → ℕ → ℕ → Lent → Type 0
-RepliesIn D = HandsBack (λ s x. D s (asReply x))
+abbrev pub RepliesIn : (State → Returned Reply → Type 0) → (Parts → Parts) → ℕ → ℕ → ℕ → ℕ → Lent → Type 0
+RepliesIn D parts pc used w = HandsBack (λ s x. D s (asReply w x)) parts pc used w
 
-abbrev pub ReportsIn : (State → Returned Report → Type 0) → (Parts → Parts) → ℕ → ℕ → ℕ → Lent → Type 0
-ReportsIn D = HandsBack (λ s x. D s (asReport x))
+abbrev pub ReportsIn : (State → Returned Report → Type 0) → (Parts → Parts) → ℕ → ℕ → ℕ → ℕ → Lent → Type 0
+ReportsIn D parts pc used w = HandsBack (λ s x. D s (asReport w x)) parts pc used w
 
--- ---- demand 3: any sequence of calls for C, each known by its contract; what they hand back is counted as what bench's calls say
+-- ---- demand 3: any sequence of calls for C, each known by its contract, with one set of writable groups; what they hand back is counted as what
+-- bench's calls say
 
-abbrev pub standsIn : Returned Numbers → State
-standsIn x = standsAt x (atOf (x .result))
+abbrev pub standsIn : ℕ → Returned Numbers → State
+standsIn w x = standsAt x (atOf w (x .result))
 
-pub data HostCalled (s₀ : State) : List Said → State → Type 0 where
-  no-call : HostCalled s₀ [] s₀
-  then-step : {l : List Said} {s : State} {x : Returned Numbers} → HostCalled s₀ l s → Tells heard oneStep s x
-      → HostCalled s₀ (stepped (asReply x .result) ∷ l) (standsIn x)
-  then-back : {l : List Said} {s : State} {x : Returned Numbers} → HostCalled s₀ l s → Tells heard oneBack s x
-      → HostCalled s₀ (backed (asReply x .result) ∷ l) (standsIn x)
-  then-run : {l : List Said} {s : State} (n : ℕ) {x : Returned Numbers} → HostCalled s₀ l s → Tells heard (run n) s x
-      → HostCalled s₀ (ran (asReport x .result) ∷ l) (standsIn x)
+pub data HostCalled (w : ℕ) (s₀ : State) : List Said → State → Type 0 where
+  no-call : HostCalled w s₀ [] s₀
+  then-step : {l : List Said} {s : State} {x : Returned Numbers} → HostCalled w s₀ l s → Tells (heard w) oneStep s x
+      → HostCalled w s₀ (stepped (asReply w x .result) ∷ l) (standsIn w x)
+  then-back : {l : List Said} {s : State} {x : Returned Numbers} → HostCalled w s₀ l s → Tells (heard w) oneBack s x
+      → HostCalled w s₀ (backed (asReply w x .result) ∷ l) (standsIn w x)
+  then-run : {l : List Said} {s : State} (n : ℕ) {x : Returned Numbers} → HostCalled w s₀ l s → Tells (heard w) (run n) s x
+      → HostCalled w s₀ (ran (asReport w x .result) ∷ l) (standsIn w x)
 
 -- ---- the viewer
 

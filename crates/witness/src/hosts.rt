@@ -1,54 +1,58 @@
 // The same for a host in C: what its calls hand back meets the demands that the calls of bench meet.
-ghost use Rattle.machine.specs.Meaning.{_&_, Image, Journal, Pad, Regs, Vram};
+ghost use Rattle.machine.specs.Meaning.{_&_, Groups, Image, Journal, Pad, Regs, Vram};
 ghost use Rattle.witness.specs.Demanded.{Step, Back, Run};
 ghost use Rattle.witness.specs.Hosted.{RepliesIn, ReportsIn, Views};
 
 // A step meets demand 1 or demand 2.
 pub fn step(
-    image: &[u8],
+    image: &mut [u8],
     pad: &mut [u8],
     vdp: &mut [u8],
     reg: &mut [u8],
     journal: &mut [u32],
     pc: u16,
     used: usize,
+    writable: u8,
     out: &mut [u64; 5],
 ) -> u8
-    ensures { λ r. ⌜ RepliesIn Step (Image image & Pad pad & Vram vdp & Regs reg & Journal journal) pc used r out ⌝ }
+    ensures { λ r. ⌜ RepliesIn Step (Image image & Groups writable & Pad pad & Vram vdp & Regs reg & Journal journal) pc used writable r out ⌝ }
 {
-    export::argolythe_step(image, pad, vdp, reg, journal, pc, used, out)
+    export::argolythe_step(image, pad, vdp, reg, journal, pc, used, writable, out)
 }
 
 // A step back that is refused has its cause, and leaves all as it was.
 pub fn step_back(
+    image: &mut [u8],
     pad: &mut [u8],
     vdp: &mut [u8],
     reg: &mut [u8],
     journal: &mut [u32],
     pc: u16,
     used: usize,
+    writable: u8,
     out: &mut [u64; 5],
 ) -> u8
-    ensures { λ r. ⌜ RepliesIn Back (Pad pad & Vram vdp & Regs reg & Journal journal) pc used r out ⌝ }
+    ensures { λ r. ⌜ RepliesIn Back (Image image & Groups writable & Pad pad & Vram vdp & Regs reg & Journal journal) pc used writable r out ⌝ }
 {
-    export::argolythe_step_back(pad, vdp, reg, journal, pc, used, out)
+    export::argolythe_step_back(image, pad, vdp, reg, journal, pc, used, writable, out)
 }
 
 // A run ends after n accepted steps, or at the first that is refused.
 pub fn run(
-    image: &[u8],
+    image: &mut [u8],
     pad: &mut [u8],
     vdp: &mut [u8],
     reg: &mut [u8],
     journal: &mut [u32],
     pc: u16,
     used: usize,
+    writable: u8,
     n: u32,
     out: &mut [u64; 5],
 ) -> u8
-    ensures { λ r. ⌜ ReportsIn (Run n) (Image image & Pad pad & Vram vdp & Regs reg & Journal journal) pc used r out ⌝ }
+    ensures { λ r. ⌜ ReportsIn (Run n) (Image image & Groups writable & Pad pad & Vram vdp & Regs reg & Journal journal) pc used writable r out ⌝ }
 {
-    export::argolythe_run(image, pad, vdp, reg, journal, pc, used, n, out)
+    export::argolythe_run(image, pad, vdp, reg, journal, pc, used, writable, n, out)
 }
 
 // What is named by the offset and the length are the bytes that the rules show.

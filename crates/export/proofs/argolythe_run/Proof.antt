@@ -1,4 +1,5 @@
 -- The run of `bench`, its report told in numbers.
+use Rattle.export.proofs.Groups.{of-run}
 use Rattle.export.proofs.Numbers.{heard-report}
 use borrow.Author.Needs.{needs}
 use Rattle.export.proofs.argolythe_run.Statement.{statement}
@@ -6,10 +7,10 @@ use Rattle.export.proofs.argolythe_run.Tie as tie
 
 returns : tie.Need-returns
 returns c =
-    let at-run = c .before .before .before .before .before .before .before .before .before .before .before .before in
-    λ _. heard-report (c .tell .ensures) (at-run .run .ensures _)
+    let at-run = c .before .before .before .before .before .before .before .before .before .before .before .before .before .before in
+    λ _. heard-report (of-run _ (at-run .run .ensures _)) (c .tell .ensures) (at-run .run .ensures _)
 
 pub argolythe-run-spec : {M : Type 1} → statement M
 argolythe-run-spec =
-    tie.close (tie.spec (search needs) (search needs) (search needs) (search needs) (search needs) (search needs) (search needs)
+    tie.close (tie.spec (search needs) (search needs) (search needs) (search needs) (search needs) (search needs) (search needs) (search needs)
     returns)

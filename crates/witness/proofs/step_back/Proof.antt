@@ -6,9 +6,9 @@ use Rattle.witness.proofs.step_back.Tie as tie
 
 returns : tie.Need-returns
 returns c =
-    let at-step-back = c .before .before .before .before .before .before .before .before in
+    let at-step-back = c .before .before .before .before .before .before .before .before .before .before in
     λ _. back-bears (at-step-back .step-back .ensures _)
 
 pub step-back-spec : {M : Type 1} → statement M
 step-back-spec =
-    tie.close (tie.spec (search needs) (search needs) (search needs) (search needs) (search needs) returns)
+    tie.close (tie.spec (search needs) (search needs) (search needs) (search needs) (search needs) (search needs) returns)

@@ -9,12 +9,12 @@ returns c = λ _. rw (c .turned-down .ensures) (back-lost _ (c .before .before .
 
 returns-2 : tie.Need-returns-2
 returns-2 c =
-    let at-undo = c .before .before .before .before .before .before .before .before in
-    let at-if1 = at-undo .before .before .before .before .before in
+    let at-undo = c .before .before .before .before .before .before .before .before .before .before in
+    let at-if1 = at-undo .before .before .before .before .before .before in
     let at-find = at-if1 .before in
     λ _. back-found (at-find .find .ensures .0) (at-if1 .if1 .left) (at-undo .undo .ensures _)
 
 pub fit-back-spec : {M : Type 1} → statement M
 fit-back-spec =
     tie.close (tie.spec (search needs) (search needs) (search needs) returns (search needs) (search needs) (search needs)
-    (search needs) (search needs) returns-2)
+    (search needs) (search needs) (search needs) returns-2)

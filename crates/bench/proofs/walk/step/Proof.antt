@@ -13,17 +13,18 @@ returns c = λ _. rw (c .turned-down .ensures) (step-unfit (c .before .before .a
 
 fit-step-requires : tie.Need-fit-step-requires
 fit-step-requires c κs =
-    let at-all-fit = c .before .before .before .before .before in
-    fitting (both (sym (at-all-fit .all-fit .ensures) ∙ granted (at-all-fit .all-fit .result) (c .before .before .before .before .if1 .left)) .1)
+    let at-if1 = c .before .before .before .before .before in
+    let at-all-fit = at-if1 .before in
+    fitting (both (sym (at-all-fit .all-fit .ensures) ∙ granted (at-all-fit .all-fit .result) (at-if1 .if1 .left)) .1)
 
 returns-2 : tie.Need-returns-2
 returns-2 c =
-    let at-fit-step = c .before .before .before .before .before .before .before .before in
-    let at-if1 = at-fit-step .before .before .before .before .before in
+    let at-fit-step = c .before .before .before .before .before .before .before .before .before .before in
+    let at-if1 = at-fit-step .before .before .before .before .before .before in
     let at-all-fit = at-if1 .before in
     λ _. step-fits (at-all-fit .all-fit .ensures) (granted _ (at-if1 .if1 .left)) (at-fit-step .fit-step .ensures _)
 
 pub step-spec : {M : Type 1} → statement M
 step-spec =
     tie.close (tie.spec (search needs) (search needs) returns fit-step-requires (search needs) (search needs) (search needs)
-    (search needs) returns-2)
+    (search needs) (search needs) returns-2)

@@ -8,11 +8,11 @@ returns : tie.Need-returns
 unfolding moveSource
 returns c =
     let at-if1 = c .before .before .before .before .before .before .before in
-    λ _. rw (at-if1 .if1 .taken) (c .before .before .before .before .cell-source .ensures _)
+    λ _. rw (at-if1 .if1 .taken) (c .before .before .before .before .place-source .ensures _)
 
 returns-2 : tie.Need-returns-2
 unfolding moveSource
-returns-2 c = λ _. rw (c .before .before .if1 .left) (c .grom-source .ensures _)
+returns-2 c = λ _. rw (c .before .before .if1 .left) (c .grom-cell .ensures _)
 
 pub move-source-spec : {M : Type 1} → statement M
 move-source-spec =

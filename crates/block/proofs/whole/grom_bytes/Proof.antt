@@ -4,9 +4,9 @@ use Prim.Native.Nat.{_-_, _≤_}
 use native.Mathlib.Omega.{arith}
 use lib.ListN.{length}
 use borrow.Author.Needs.{needs}
-use Rattle.rules.specs.Machine.{vdp}
+use Rattle.rules.specs.Machine.{grom, vdp}
 use Rattle.rules.specs.Operands.{cell}
-use Rattle.rules.specs.Instructions.{moveBytes, fromGrom}
+use Rattle.rules.specs.Instructions.{moveBytes}
 use Rattle.rules.proofs.Loops.{up, none-left, none-made}
 use Rattle.machine.specs.Meaning.{_&_, imageFrom, vramFrom, journalFrom, Leaves}
 use Rattle.machine.proofs.Chain.{whole, turns, ends, over}
@@ -17,7 +17,7 @@ use Rattle.block.proofs.whole.grom_bytes.Tie as tie
 
 abbrev Inv-loop : tie.InvT-loop
 Inv-loop image vram₀ journal₀ n a t x₀ k₀ vram journal x k =
-    Leaves (moveBytes n 0 (fromGrom a) (cell vdp t)) (moveBytes (n - k) k (fromGrom a) (cell vdp t))
+    Leaves (moveBytes n 0 (cell grom a) (cell vdp t)) (moveBytes (n - k) k (cell grom a) (cell vdp t))
     (imageFrom image image & vramFrom vram₀ vram & journalFrom journal₀ journal) x₀ x
     × (length vram ≡ length vram₀) × (length journal ≡ length journal₀) × (k ≤ n)
 

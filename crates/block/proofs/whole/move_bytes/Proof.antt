@@ -6,7 +6,7 @@ use Rattle.block.proofs.whole.move_bytes.Tie as tie
 returns : tie.Need-returns
 returns c =
     let at-bytes = c .before .before .before .before in
-    let at-from = at-bytes .before .before .before .before in
+    let at-from = at-bytes .before .before .before .before .before in
     λ _. rw (at-from .before .before .before .to .given .1, at-from .from .given .1) (at-bytes .grom-bytes .ensures _)
 
 returns-2 : tie.Need-returns-2
@@ -26,6 +26,7 @@ returns-4 c = search needs
 
 pub move-bytes-spec : {M : Type 1} → statement M
 move-bytes-spec =
-    tie.close (tie.spec (search needs) (search needs) (search needs) (search needs) (search needs) (search needs) (search needs)
-    (search needs) (search needs) (search needs) returns (search needs) (search needs) (search needs) returns-2 (search needs)
-    (search needs) returns-3 (search needs) (search needs) (search needs) (search needs) returns-4)
+    tie.close (tie.spec (search needs) (search needs) (search needs) (search needs) (search needs) (search needs)
+    (search needs) (search needs) (search needs) (search needs) (search needs) returns (search needs) (search needs)
+    (search needs) returns-2 (search needs) (search needs) returns-3 (search needs) (search needs) (search needs)
+    (search needs) (search needs) returns-4)

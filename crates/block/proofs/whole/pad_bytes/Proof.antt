@@ -6,7 +6,7 @@ use lib.ListN.{length}
 use borrow.Author.Needs.{needs}
 use Rattle.rules.specs.Machine.{cpu, vdp}
 use Rattle.rules.specs.Operands.{cell}
-use Rattle.rules.specs.Instructions.{moveBytes, fromCell}
+use Rattle.rules.specs.Instructions.{moveBytes}
 use Rattle.rules.proofs.Loops.{up, none-left, none-made}
 use Rattle.machine.specs.Meaning.{_&_, padFrom, vramFrom, journalFrom, Leaves}
 use Rattle.machine.proofs.Chain.{whole, turns, ends, over}
@@ -17,7 +17,7 @@ use Rattle.block.proofs.whole.pad_bytes.Tie as tie
 
 abbrev Inv-loop : tie.InvT-loop
 Inv-loop pad vram₀ journal₀ n a t x₀ k₀ vram journal x k =
-    Leaves (moveBytes n 0 (fromCell (cell cpu a)) (cell vdp t)) (moveBytes (n - k) k (fromCell (cell cpu a)) (cell vdp t))
+    Leaves (moveBytes n 0 (cell cpu a) (cell vdp t)) (moveBytes (n - k) k (cell cpu a) (cell vdp t))
     (padFrom pad pad & vramFrom vram₀ vram & journalFrom journal₀ journal) x₀ x
     × (length vram ≡ length vram₀) × (length journal ≡ length journal₀) × (k ≤ n)
 

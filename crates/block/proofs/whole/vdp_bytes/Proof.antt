@@ -6,7 +6,7 @@ use lib.ListN.{length}
 use borrow.Author.Needs.{needs}
 use Rattle.rules.specs.Machine.{vdp}
 use Rattle.rules.specs.Operands.{cell}
-use Rattle.rules.specs.Instructions.{moveBytes, fromCell}
+use Rattle.rules.specs.Instructions.{moveBytes}
 use Rattle.rules.proofs.Loops.{up, none-left, none-made}
 use Rattle.machine.specs.Meaning.{_&_, vramFrom, journalFrom, Leaves}
 use Rattle.machine.proofs.Chain.{whole, turns, ends, over}
@@ -17,7 +17,7 @@ use Rattle.block.proofs.whole.vdp_bytes.Tie as tie
 
 abbrev Inv-loop : tie.InvT-loop
 Inv-loop vram₀ journal₀ n a t x₀ k₀ vram journal x k =
-    Leaves (moveBytes n 0 (fromCell (cell vdp a)) (cell vdp t)) (moveBytes (n - k) k (fromCell (cell vdp a)) (cell vdp t))
+    Leaves (moveBytes n 0 (cell vdp a) (cell vdp t)) (moveBytes (n - k) k (cell vdp a) (cell vdp t))
     (vramFrom vram₀ vram & journalFrom journal₀ journal) x₀ x
     × (length vram ≡ length vram₀) × (length journal ≡ length journal₀) × (k ≤ n)
 

@@ -1,5 +1,5 @@
 -- By the kind: its memory is put into, and the others stay.
-use Rattle.rules.specs.Machine.{cpu, vdp, register}
+use Rattle.rules.specs.Machine.{cpu, vdp, register, grom}
 use Rattle.machine.proofs.Words.{restore-kind, restore-none}
 use borrow.Author.Needs.{needs}
 use Rattle.machine.proofs.journal.put_back.Statement.{statement}
@@ -37,10 +37,21 @@ returns-3 c =
 
 returns-4 : tie.Need-returns-4
 returns-4 c =
-    let at-kind-of = c .before .before .before .before .before in
-    λ u rest. restore-none _ _ _ (at-kind-of .kind-of .ensures) (c .before .before .if1 .left) (c .before .if2 .left) (c .if3 .left)
+    let at-byte-of = c .before .before .before .before .before .before .before .before in
+    let at-cell-of = at-byte-of .before in
+    let at-kind-of = at-cell-of .before in
+    λ u rest.
+    rw (c .before .before .put4 .ensures)
+    (restore-kind grom _ _ _ _ _ (at-kind-of .kind-of .ensures) (c .before .before .before .before .if4 .taken) (at-cell-of .cell-of .ensures)
+    (at-byte-of .byte-of .ensures))
+
+returns-5 : tie.Need-returns-5
+returns-5 c =
+    let at-kind-of = c .before .before .before .before .before .before in
+    λ u rest. restore-none _ _ _ (at-kind-of .kind-of .ensures) (c .before .before .before .if1 .left) (c .before .before .if2 .left) (c .before .if3 .left)
+    (c .if4 .left)
 
 pub put-back-spec : {M : Type 1} → statement M
 put-back-spec =
     tie.close (tie.spec (search needs) (search needs) (search needs) (search needs) (search needs) (search needs) returns
-    (search needs) (search needs) returns-2 (search needs) (search needs) returns-3 returns-4)
+    (search needs) (search needs) returns-2 (search needs) (search needs) returns-3 (search needs) (search needs) returns-4 returns-5)

@@ -6,15 +6,15 @@ use Rattle.machine.proofs.journal.undo_top.Statement.{statement}
 use Rattle.machine.proofs.journal.undo_top.Tie as tie
 
 returns : tie.Need-returns
-returns c = λ _. undo-none _ _ _ _ _ _ (c .if1 .taken)
+returns c = λ _. undo-none _ (record { image = _; groups = _; pad = _; vram = _; regs = _; journal = _; used = 0 }) (c .if1 .taken)
 
 returns-2 : tie.Need-returns-2
 returns-2 c =
-    let at-put-back = c .before .before .before .before .before .before in
-    let at-if1 = at-put-back .before .before .before .before .before in
+    let at-put-back = c .before .before .before .before .before .before .before .before in
+    let at-if1 = at-put-back .before .before .before .before .before .before in
     λ _. undone _ _ _ _ _ (at-if1 .if1 .left) refl refl (at-put-back .put-back .ensures _ _)
 
 pub undo-top-spec : {M : Type 1} → statement M
 undo-top-spec =
     tie.close (tie.spec returns (search needs) (search needs) (search needs) (search needs) (search needs) (search needs)
-    (search needs) (search needs) (search needs) (search needs) returns-2)
+    (search needs) (search needs) (search needs) (search needs) (search needs) returns-2)

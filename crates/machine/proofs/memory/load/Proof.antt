@@ -1,6 +1,5 @@
 -- Still after a refusal; out of reach the memory's own refusal; else the byte.
 use mathlib.Core.Path.{refl}
-use Rattle.machine.specs.Meaning.{kindOf}
 use Rattle.machine.proofs.Acts.{still, within, peek-far, peeked}
 use borrow.Author.Needs.{needs}
 use Rattle.machine.proofs.memory.load.Statement.{statement}
@@ -10,17 +9,19 @@ returns : tie.Need-returns
 returns c = λ x. still (c .if1 .taken)
 
 returns-2 : tie.Need-returns-2
-returns-2 c = λ x. rw (c .refused .ensures) (peek-far _ (c .before .before .before .before .if1 .left) (c .before .before .before .reach .ensures)
-    (c .before .before .if2 .taken) (c .before .outside .ensures))
+returns-2 c =
+    let start = c .before .before .before .before .before .before .before in
+    λ x. rw (c .refused .ensures) (peek-far (start .args .k) _ x (c .before .before .before .before .if1 .left) (c .before .before .before .reach .ensures) (c .before .before .if2 .taken) (c .before .outside .ensures))
 
 shared-slice-read-read : tie.Need-shared-slice-read-read
 shared-slice-read-read c =
     let start = c .before .before .before .before .before .before in
-    within (kindOf (start .args .k)) (c .before .before .reach .ensures) (start .pre) (c .before .if2 .left)
+    within (start .args .k) (c .before .before .reach .ensures) (start .pre) (c .before .if2 .left)
 
 returns-3 : tie.Need-returns-3
-returns-3 c = λ x. rw (c .read .ensures) (peeked _ _ x (c .before .before .before .before .if1 .left) (c .before .before .before .reach .ensures)
-    (c .before .before .if2 .left) refl)
+returns-3 c =
+    let start = c .before .before .before .before .before .before .before in
+    λ x. rw (c .read .ensures) (peeked (start .args .k) _ x (c .before .before .before .before .if1 .left) (c .before .before .before .reach .ensures) (c .before .before .if2 .left) refl)
 
 pub load-spec : {M : Type 1} → statement M
 load-spec =

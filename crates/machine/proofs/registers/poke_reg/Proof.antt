@@ -6,7 +6,7 @@ use Rattle.machine.proofs.registers.poke_reg.Statement.{statement}
 use Rattle.machine.proofs.registers.poke_reg.Tie as tie
 
 returns : tie.Need-returns
-returns c = λ rest. c .before .before .before .before .store .ensures (mem (rest .image) (rest .pad) (rest .vram) [] [] 0)
+returns c = λ rest. c .before .before .before .before .store .ensures (mem (rest .image) (rest .groups) (rest .pad) (rest .vram) [] [] 0)
 
 pub poke-reg-spec : {M : Type 1} → statement M
 poke-reg-spec =

@@ -7,7 +7,7 @@ use Rattle.number.proofs.words.mark_of.Tie as tie
 
 returns : tie.Need-returns
 unfolding markWord
-returns c = or-shifted 3 30 (c .args .pc) (omega arith)
+returns c = or-shifted 3 29 (c .args .pc) (omega arith)
 
 pub mark-of-spec : {M : Type 1} → statement M
 mark-of-spec =

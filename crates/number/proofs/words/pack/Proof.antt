@@ -12,9 +12,9 @@ returns c =
     let kind = c .args .kind in
     let at = c .args .at in
     let b = c .args .b in
-    let same : kind * 2 ^ 30 + (at * 2 ^ 8 + b) ≡ kind * 2 ^ 30 + at * 256 + b = omega arith in
-    ap (bitOr (kind * 2 ^ 30 % 2 ^ 32)) (packed 22 8 32 (c .pre .1) (omega arith) (c .fits .b .fits))
-    ∙ packed 2 30 32 (c .pre .0) (omega arith) (omega arith) ∙ same
+    let same : kind * 2 ^ 29 + (at * 2 ^ 8 + b) ≡ kind * 2 ^ 29 + at * 256 + b = omega arith in
+    ap (bitOr (kind * 2 ^ 29 % 2 ^ 32)) (packed 21 8 32 (c .pre .1) (omega arith) (c .fits .b .fits))
+    ∙ packed 3 29 32 (c .pre .0) (omega arith) (omega arith) ∙ same
 
 pub pack-spec : {M : Type 1} → statement M
 pack-spec =

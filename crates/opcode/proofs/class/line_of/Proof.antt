@@ -1,137 +1,137 @@
 -- Of each line antt computes the test of its eight opcodes; the last arm is past all keys.
 use Rattle.rules.specs.Machine.{_also_, bit}
-use Rattle.rules.specs.Opcodes.{moveClass, classOf}
+use Rattle.rules.specs.Opcodes.{gramClass, moveClass, classOf}
 use Rattle.opcode.specs.Entries.{listed, inLine}
 use Rattle.opcode.proofs.Listed.{last}
 use Rattle.opcode.proofs.class.line_of.Statement.{statement}
 use Rattle.opcode.proofs.class.line_of.Tie as tie
 
 returns : tie.Need-returns
-unfolding inLine listed classOf moveClass _also_ bit
+unfolding inLine listed classOf gramClass moveClass _also_ bit
 returns c = rw (c .match .keys1)
 
 returns-2 : tie.Need-returns-2
-unfolding inLine listed classOf moveClass _also_ bit
+unfolding inLine listed classOf gramClass moveClass _also_ bit
 returns-2 c = rw (c .match .keys2)
 
 returns-3 : tie.Need-returns-3
-unfolding inLine listed classOf moveClass _also_ bit
+unfolding inLine listed classOf gramClass moveClass _also_ bit
 returns-3 c = rw (c .match .keys3)
 
 returns-4 : tie.Need-returns-4
-unfolding inLine listed classOf moveClass _also_ bit
+unfolding inLine listed classOf gramClass moveClass _also_ bit
 returns-4 c = rw (c .match .keys4)
 
 returns-5 : tie.Need-returns-5
-unfolding inLine listed classOf moveClass _also_ bit
+unfolding inLine listed classOf gramClass moveClass _also_ bit
 returns-5 c = rw (c .match .keys5)
 
 returns-6 : tie.Need-returns-6
-unfolding inLine listed classOf moveClass _also_ bit
+unfolding inLine listed classOf gramClass moveClass _also_ bit
 returns-6 c = rw (c .match .keys6)
 
 returns-7 : tie.Need-returns-7
-unfolding inLine listed classOf moveClass _also_ bit
+unfolding inLine listed classOf gramClass moveClass _also_ bit
 returns-7 c = rw (c .match .keys7)
 
 returns-8 : tie.Need-returns-8
-unfolding inLine listed classOf moveClass _also_ bit
+unfolding inLine listed classOf gramClass moveClass _also_ bit
 returns-8 c = rw (c .match .keys8)
 
 returns-9 : tie.Need-returns-9
-unfolding inLine listed classOf moveClass _also_ bit
+unfolding inLine listed classOf gramClass moveClass _also_ bit
 returns-9 c = rw (c .match .keys9)
 
 returns-10 : tie.Need-returns-10
-unfolding inLine listed classOf moveClass _also_ bit
+unfolding inLine listed classOf gramClass moveClass _also_ bit
 returns-10 c = rw (c .match .keys10)
 
 returns-11 : tie.Need-returns-11
-unfolding inLine listed classOf moveClass _also_ bit
+unfolding inLine listed classOf gramClass moveClass _also_ bit
 returns-11 c = rw (c .match .keys11)
 
 returns-12 : tie.Need-returns-12
-unfolding inLine listed classOf moveClass _also_ bit
+unfolding inLine listed classOf gramClass moveClass _also_ bit
 returns-12 c = rw (c .match .keys12)
 
 returns-13 : tie.Need-returns-13
-unfolding inLine listed classOf moveClass _also_ bit
+unfolding inLine listed classOf gramClass moveClass _also_ bit
 returns-13 c = rw (c .match .keys13)
 
 returns-14 : tie.Need-returns-14
-unfolding inLine listed classOf moveClass _also_ bit
+unfolding inLine listed classOf gramClass moveClass _also_ bit
 returns-14 c = rw (c .match .keys14)
 
 returns-15 : tie.Need-returns-15
-unfolding inLine listed classOf moveClass _also_ bit
+unfolding inLine listed classOf gramClass moveClass _also_ bit
 returns-15 c = rw (c .match .keys15)
 
 returns-16 : tie.Need-returns-16
-unfolding inLine listed classOf moveClass _also_ bit
+unfolding inLine listed classOf gramClass moveClass _also_ bit
 returns-16 c = rw (c .match .keys16)
 
 returns-17 : tie.Need-returns-17
-unfolding inLine listed classOf moveClass _also_ bit
+unfolding inLine listed classOf gramClass moveClass _also_ bit
 returns-17 c = rw (c .match .keys17)
 
 returns-18 : tie.Need-returns-18
-unfolding inLine listed classOf moveClass _also_ bit
+unfolding inLine listed classOf gramClass moveClass _also_ bit
 returns-18 c = rw (c .match .keys18)
 
 returns-19 : tie.Need-returns-19
-unfolding inLine listed classOf moveClass _also_ bit
+unfolding inLine listed classOf gramClass moveClass _also_ bit
 returns-19 c = rw (c .match .keys19)
 
 returns-20 : tie.Need-returns-20
-unfolding inLine listed classOf moveClass _also_ bit
+unfolding inLine listed classOf gramClass moveClass _also_ bit
 returns-20 c = rw (c .match .keys20)
 
 returns-21 : tie.Need-returns-21
-unfolding inLine listed classOf moveClass _also_ bit
+unfolding inLine listed classOf gramClass moveClass _also_ bit
 returns-21 c = rw (c .match .keys21)
 
 returns-22 : tie.Need-returns-22
-unfolding inLine listed classOf moveClass _also_ bit
+unfolding inLine listed classOf gramClass moveClass _also_ bit
 returns-22 c = rw (c .match .keys22)
 
 returns-23 : tie.Need-returns-23
-unfolding inLine listed classOf moveClass _also_ bit
+unfolding inLine listed classOf gramClass moveClass _also_ bit
 returns-23 c = rw (c .match .keys23)
 
 returns-24 : tie.Need-returns-24
-unfolding inLine listed classOf moveClass _also_ bit
+unfolding inLine listed classOf gramClass moveClass _also_ bit
 returns-24 c = rw (c .match .keys24)
 
 returns-25 : tie.Need-returns-25
-unfolding inLine listed classOf moveClass _also_ bit
+unfolding inLine listed classOf gramClass moveClass _also_ bit
 returns-25 c = rw (c .match .keys25)
 
 returns-26 : tie.Need-returns-26
-unfolding inLine listed classOf moveClass _also_ bit
+unfolding inLine listed classOf gramClass moveClass _also_ bit
 returns-26 c = rw (c .match .keys26)
 
 returns-27 : tie.Need-returns-27
-unfolding inLine listed classOf moveClass _also_ bit
+unfolding inLine listed classOf gramClass moveClass _also_ bit
 returns-27 c = rw (c .match .keys27)
 
 returns-28 : tie.Need-returns-28
-unfolding inLine listed classOf moveClass _also_ bit
+unfolding inLine listed classOf gramClass moveClass _also_ bit
 returns-28 c = rw (c .match .keys28)
 
 returns-29 : tie.Need-returns-29
-unfolding inLine listed classOf moveClass _also_ bit
+unfolding inLine listed classOf gramClass moveClass _also_ bit
 returns-29 c = rw (c .match .keys29)
 
 returns-30 : tie.Need-returns-30
-unfolding inLine listed classOf moveClass _also_ bit
+unfolding inLine listed classOf gramClass moveClass _also_ bit
 returns-30 c = rw (c .match .keys30)
 
 returns-31 : tie.Need-returns-31
-unfolding inLine listed classOf moveClass _also_ bit
+unfolding inLine listed classOf gramClass moveClass _also_ bit
 returns-31 c = rw (c .match .keys31)
 
 returns-32 : tie.Need-returns-32
-unfolding inLine listed classOf moveClass _also_ bit
+unfolding inLine listed classOf gramClass moveClass _also_ bit
 returns-32 c = rw (last _ 31 (c .match .rest) (c .before .pre))
 
 pub line-of-spec : {M : Type 1} → statement M

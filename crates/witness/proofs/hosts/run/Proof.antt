@@ -6,9 +6,9 @@ use Rattle.witness.proofs.hosts.run.Tie as tie
 
 returns : tie.Need-returns
 returns c =
-    let at-argolythe-run = c .before .before .before .before .before .before .before .before in
-    λ _. run-heard _ (at-argolythe-run .argolythe-run .ensures _)
+    let at-argolythe-run = c .before .before .before .before .before .before .before .before .before .before in
+    λ _. run-heard _ _ (at-argolythe-run .argolythe-run .ensures _)
 
 pub run-spec : {M : Type 1} → statement M
 run-spec =
-    tie.close (tie.spec (search needs) (search needs) (search needs) (search needs) (search needs) returns)
+    tie.close (tie.spec (search needs) (search needs) (search needs) (search needs) (search needs) (search needs) returns)
