@@ -63,6 +63,7 @@ struct writer {
     struct dice *dice;
     const uint8_t *pad; /* the pad that the code will meet, or NULL */
     size_t image_len;
+    uint8_t writable;
     bool keep_patches;
     uint16_t at;
     uint16_t label[CASE_LABELS_MAX];
@@ -398,6 +399,37 @@ static void put_place(struct writer *w, uint32_t length)
     }
 }
 
+/* The length of a MOVE, as two bytes or an operand; what it will be, as far as that is known. */
+static uint32_t put_length(struct writer *w, uint32_t op, uint32_t length)
+{
+    if (op & 1) {
+        put_word(w, length);
+        return length;
+    }
+    if (percent(w->dice, 90))
+        put_cpu_operand(w, LENGTH_WORDS + 2 * below(w->dice, 8));
+    else
+        put_operand(w, 2);
+    return 8;
+}
+
+/* The source of a MOVE: an operand, or the GROM address. */
+static void put_source(struct writer *w, uint32_t op, uint32_t length, uint32_t from)
+{
+    struct dice *d = w->dice;
+
+    if (op & 4) {
+        put_place(w, length);
+        return;
+    }
+    uint32_t cell = percent(d, 95) ? INDEX_WORDS + 2 * below(d, 8) : between(d, 0xDC, 0xE1);
+    if ((op & 2) && w->pad)
+        from -= (uint32_t)w->pad[cell] << 8 | w->pad[cell + 1];
+    put_word(w, from);
+    if (op & 2)
+        put(w, cell);
+}
+
 static void put_move(struct writer *w)
 {
     struct dice *d = w->dice;
@@ -409,29 +441,76 @@ static void put_move(struct writer *w)
     if ((op & 8) && percent(d, 85))
         length = between(d, 1, 3);
     put(w, op);
-    if (op & 1) {
-        put_word(w, length);
-    } else if (percent(d, 90)) {
-        put_cpu_operand(w, LENGTH_WORDS + 2 * below(d, 8));
-        length = 8;
-    } else {
-        put_operand(w, 2);
-    }
+    length = put_length(w, op, length);
     if (op & 8)
         put(w, percent(d, 88) ? below(d, length < 8 ? 9 - length : 2) : edge_byte(d));
     else
         put_place(w, length);
-    if (op & 4) {
-        put_place(w, length);
-    } else {
-        uint32_t from = some_address(w);
-        uint32_t cell = percent(d, 95) ? INDEX_WORDS + 2 * below(d, 8) : between(d, 0xDC, 0xE1);
-        if ((op & 2) && w->pad)
-            from -= (uint32_t)w->pad[cell] << 8 | w->pad[cell + 1];
-        put_word(w, from);
-        if (op & 2)
-            put(w, cell);
+    put_source(w, op, length, some_address(w));
+}
+
+/* ---- MOVE into GROM ---- */
+
+static bool is_writable(uint32_t writable, uint32_t group)
+{
+    return writable >> group & 1;
+}
+
+/* The end of a group that may be written before one that may not, if the image has such a pair; else of any. */
+static uint32_t end_of_writable(struct writer *w)
+{
+    uint32_t groups = (uint32_t)(w->image_len / CASE_GROUP_LEN);
+    uint32_t first = below(w->dice, groups);
+
+    for (uint32_t i = 0; i < groups; i++) {
+        uint32_t group = (first + i) % groups;
+        if (is_writable(w->writable, group) && !is_writable(w->writable, (group + 1) % 8))
+            return CASE_GROUP_LEN * (group + 1);
     }
+    return CASE_GROUP_LEN * (first + 1);
+}
+
+/* Where so many bytes go: over the code to come, over a label, over their source, over an end, or anywhere. */
+static uint32_t grom_target(struct writer *w, uint32_t length, uint32_t from)
+{
+    struct dice *d = w->dice;
+    uint32_t into = between(d, 1, length >= 1 && length <= 0x8000 ? length : 1); /* so many before an end */
+    uint32_t r = below(d, 100);
+
+    if (w->image_len == CASE_IMAGE_MAX && one_in(d, 2))
+        return 0x10000 - into; /* only in a whole image is anything stored there, and past it at 0 */
+    if (r < 32)
+        return w->at + (one_in(d, 2) ? 0 : below(d, 6));
+    if (r < 42 && w->labels > 0)
+        return w->label[below(d, (uint32_t)w->labels)];
+    if (r < 62)
+        return from + below(d, 2 * into + 1) - into;
+    if (r < 72)
+        return (uint32_t)w->image_len - into;
+    if (r < 92)
+        return end_of_writable(w) - into;
+    return some_address(w);
+}
+
+/* The target is known when all else is written, so its two bytes are put last. */
+static void put_move_to_grom(struct writer *w)
+{
+    struct dice *d = w->dice;
+    uint32_t op = 0x20 | below(d, 6);
+    uint32_t from = some_address(w);
+
+    put(w, op);
+    uint32_t length = put_length(w, op, some_length(d));
+    uint16_t high = w->at;
+    put(w, 0);
+    uint16_t low = w->at;
+    put(w, 0);
+    put_source(w, op, length, from);
+    uint32_t to = grom_target(w, length, from);
+    if (!is_writable(w->writable, to / CASE_GROUP_LEN % 8)) /* once more, or too many are refused at the first byte */
+        to = grom_target(w, length, from);
+    put_at(w, high, to >> 8 & 0xFF);
+    put_at(w, low, to & 0xFF);
 }
 
 /* ---- instructions ---- */
@@ -476,8 +555,8 @@ static void put_side(struct writer *w, uint32_t granularity, uint32_t table, uin
     struct dice *d = w->dice;
     bool all = percent(d, 50);
 
-    put_at(w, table + side, all ? 0xFF >> granularity : edge_byte(d));
-    put_at(w, table + 2 + side, all ? 0x80 >> granularity : edge_byte(d));
+    put_at(w, table + side, all ? 0xFFu >> granularity : edge_byte(d));
+    put_at(w, table + 2 + side, all ? 0x80u >> granularity : edge_byte(d));
 }
 
 /* COINC, by a table of its own: anywhere in the image, about its end, or past it.
@@ -542,8 +621,8 @@ static void put_plain(struct writer *w)
 static void put_undone(struct writer *w)
 {
     static const uint8_t ops[] = {
-        0x0B, 0x0B, 0x03, 0x0F, 0xF4, 0xF5, 0xF6, 0xF7, 0x0E, 0x10, 0x13, 0x1F, 0x20, 0x2F, 0x36,
-        0x37, 0x3E, 0x3F, 0x98, 0x9F, 0xC2, 0xC3, 0xEC, 0xEE, 0xEF, 0xF0, 0xF3, 0xF8, 0xFC, 0xFF
+        0x0B, 0x0B, 0x03, 0x0F, 0xF4, 0xF5, 0xF6, 0xF7, 0x0E, 0x10, 0x13, 0x1F, 0x26, 0x27, 0x28,
+        0x2D, 0x2F, 0x36, 0x37, 0x3E, 0x3F, 0x98, 0x9F, 0xC2, 0xC3, 0xEC, 0xEE, 0xEF, 0xF0, 0xF3, 0xF8, 0xFC, 0xFF
     };
     put(w, PICK(w->dice, ops));
 }
@@ -557,6 +636,8 @@ static void put_instruction(struct writer *w, uint32_t undone_percent)
         put_undone(w);
     else if (r < 5)
         put_coincidence(w);
+    else if (r < 12)
+        put_move_to_grom(w);
     else if (r < 40)
         put_two_operands(w);
     else if (r < 60)
@@ -641,16 +722,51 @@ static size_t some_image_len(struct dice *d)
     return (size_t)CASE_GROUP_LEN * (percent(d, 85) ? between(d, 1, 4) : between(d, 5, 8));
 }
 
-/* A record of a few stores, as a step would have left it. */
-static size_t fill_record(struct dice *d, uint32_t *journal, size_t at, size_t end)
+/* None, all, those of the image, one of them, any, or only such as the image doesn't have. */
+static uint8_t some_groups(struct dice *d, size_t image_len)
+{
+    uint32_t groups = (uint32_t)(image_len / CASE_GROUP_LEN);
+    uint32_t r = below(d, 100);
+
+    if (r < 7)
+        return 0;
+    if (r < 45)
+        return 0xFF;
+    if (r < 53)
+        return (uint8_t)((1u << groups) - 1);
+    if (r < 62)
+        return (uint8_t)(1u << below(d, groups));
+    if (r < 95)
+        return (uint8_t)below(d, 256);
+    return (uint8_t)(0xFFu << groups);
+}
+
+static uint32_t journal_word(uint32_t kind, uint32_t at, uint32_t byte)
+{
+    return kind << 29 | at << 8 | byte;
+}
+
+/* A store's word, as a step would have left it; one for GROM where the case may write it, mostly. */
+static uint32_t some_store(struct dice *d, const struct test_case *c)
+{
+    static const uint32_t cells[] = {0xE0, 0x4000, 8};
+    uint32_t kind = below(d, 3);
+
+    if (percent(d, 15)) {
+        uint32_t at = below(d, (uint32_t)c->image_len);
+        if (is_writable(c->writable, at / CASE_GROUP_LEN) || percent(d, 4))
+            return journal_word(4, at, below(d, 256));
+    }
+    return journal_word(kind, below(d, cells[kind]), below(d, 256));
+}
+
+/* A record of a few stores. */
+static size_t fill_record(struct dice *d, const struct test_case *c, size_t at, size_t end)
 {
     uint32_t stores = below(d, 7);
-    journal[at++] = 3u << 30 | below(d, 65536);
-    for (; stores > 0 && at < end; stores--) {
-        uint32_t kind = below(d, 3);
-        uint32_t cells = kind == 0 ? 0xE0 : kind == 1 ? 0x4000 : 8;
-        journal[at++] = kind << 30 | below(d, cells) << 8 | below(d, 256);
-    }
+    c->journal[at++] = journal_word(3, 0, 0) | below(d, 65536);
+    for (; stores > 0 && at < end; stores--)
+        c->journal[at++] = some_store(d, c);
     return at;
 }
 
@@ -693,7 +809,7 @@ static void fill_journal(struct dice *d, struct test_case *c)
         memset(journal, 0, at * sizeof *journal);
     }
     while (at < c->used)
-        at = fill_record(d, journal, at, c->used);
+        at = fill_record(d, c, at, c->used);
     if (one_in(d, 2)) {
         memset(journal + at, 0, (len - at) * sizeof *journal);
     } else {
@@ -765,26 +881,38 @@ static void spoil_length(struct dice *d, struct call *call)
     }
 }
 
-/* The journal's top, spoilt in one word: any bit, any cell, any word. */
+/* The journal's top, spoilt in one word: any bit, any cell, a GROM cell, any word, one of no kind. */
 static void some_damage(struct dice *d, struct call *call)
 {
     static const uint32_t cells[] = {
-        0x00DF00u, 0x00E000u, 0x00FF00u, 0x010000u, 0x40000000u, 0x403FFF00u, 0x40400000u,
-        0x80000700u, 0x80000800u, 0x80010000u, 0xC0000000u, 0xC0010000u, 0xE0000000u, 0xC000FFFFu
+        0x00DF00u, 0x00E000u, 0x00FF00u, 0x010000u, 0x20000000u, 0x203FFF00u, 0x20400000u, 0x40000700u,
+        0x40000800u, 0x40010000u, 0x60000000u, 0x60010000u, 0x70000000u, 0x6000FFFFu, 0x80000000u, 0x801FFF00u,
+        0x80200000u, 0x80FFFF00u, 0x81000000u, 0x90000000u, 0xA0000000u, 0xC0000000u, 0xE0000000u
     };
     uint32_t r = below(d, 100);
 
     call->damage = true;
     call->damage_below = percent(d, 80) ? below(d, 6) : below(d, 60);
-    call->damage_and = 0xFFFFFFFFu;
-    if (r < 50) {
+    call->damage_and = r < 40 ? 0xFFFFFFFFu : 0;
+    if (r < 40)
         call->damage_xor = 1u << below(d, 32);
-    } else if (r < 80) {
-        call->damage_and = 0;
+    else if (r < 60)
         call->damage_xor = PICK(d, cells);
-    } else {
+    else if (r < 80)
+        call->damage_xor = journal_word(4, below(d, (uint32_t)call->image_len + CASE_GROUP_LEN), below(d, 256));
+    else if (r < 90)
         call->damage_xor = (uint32_t)roll(d);
-    }
+    else
+        call->damage_xor = journal_word(between(d, 5, 7), below(d, 0x200000), below(d, 256));
+}
+
+/* Other groups than the case's, or fewer groups of the image. */
+static void some_other_groups(struct dice *d, struct call *call)
+{
+    if (one_in(d, 2))
+        call->writable = (uint8_t)(one_in(d, 2) ? below(d, 256) : call->writable ^ 1u << below(d, 8));
+    else
+        call->image_len = CASE_GROUP_LEN * between(d, 1, (uint32_t)(call->image_len / CASE_GROUP_LEN));
 }
 
 static void fill_call(struct writer *w, const struct test_case *c, struct call *call)
@@ -799,9 +927,14 @@ static void fill_call(struct writer *w, const struct test_case *c, struct call *
     call->vdp_len = CASE_VDP_LEN;
     call->reg_len = CASE_REG_LEN;
     call->journal_len = c->journal_len;
+    call->writable = c->writable;
     call->n = some_run(d);
     if (call->kind == CALL_VIEW)
         some_view(d, call);
+    if (percent(d, 6))
+        some_other_groups(d, call);
+    if (call->kind == CALL_BACK && percent(d, 22))
+        some_damage(d, call);
     if (percent(d, 2))
         spoil_length(d, call);
     if (percent(d, 35)) {
@@ -817,8 +950,6 @@ static void fill_call(struct writer *w, const struct test_case *c, struct call *
                                    : call->pad_at == 0x73 ? between(d, 0x7D, 0xA0)
                                                           : below(d, 256));
     }
-    if (call->kind == CALL_BACK && percent(d, 22))
-        some_damage(d, call);
     if (percent(d, 4))
         call->drop_used = one_in(d, 4) ? SIZE_MAX : between(d, 1, 20);
 }
@@ -853,6 +984,16 @@ static void take_patches_away(struct maker *m)
     }
 }
 
+/* A case about GRAM begins with a MOVE into GROM, which may bring an instruction written before it. */
+static void write_gram_code(struct writer *w, struct test_case *c)
+{
+    add_label(w);
+    c->pc = w->at;
+    put_move_to_grom(w);
+    for (int i = 0; i < 3; i++)
+        put_instruction(w, 3);
+}
+
 static void write_code(struct writer *w, struct test_case *c)
 {
     struct dice *d = w->dice;
@@ -883,7 +1024,9 @@ void maker_make(struct maker *m, uint64_t number, struct test_case *c)
     take_patches_away(m);
 
     c->image = m->image;
-    c->image_len = some_image_len(&d);
+    bool about_gram = one_in(&d, 5);
+    c->image_len = about_gram && one_in(&d, 2) ? CASE_IMAGE_MAX : some_image_len(&d);
+    c->writable = some_groups(&d, c->image_len);
     c->journal = m->journal;
     fill_pad(&d, c->pad);
     memcpy(c->vdp, m->noise, sizeof c->vdp);
@@ -892,9 +1035,12 @@ void maker_make(struct maker *m, uint64_t number, struct test_case *c)
     fill_journal(&d, c);
 
     struct writer w = {
-        .maker = m, .dice = &d, .pad = c->pad, .image_len = c->image_len, .keep_patches = true};
+        .maker = m, .dice = &d, .pad = c->pad, .image_len = c->image_len, .writable = c->writable,
+        .keep_patches = true};
     c->pc = w.at = start_address(&d, c->image_len);
     write_code(&w, c);
+    if (about_gram)
+        write_gram_code(&w, c);
     fill_return_stack(&w, c->pad);
 
     c->call_count = (int)between(&d, 1, CASE_CALLS_MAX);

@@ -35,6 +35,7 @@ struct call {
     /* the lengths as lent */
     size_t image_len, pad_len, vdp_len, reg_len, journal_len;
     size_t used_beyond; /* if not 0: used is lent as the journal's length plus this */
+    uint8_t writable;
 
     bool set_pc;
     uint16_t pc;
@@ -49,6 +50,7 @@ struct call {
 struct test_case {
     const uint8_t *image; /* the maker's own, until its next case */
     size_t image_len;
+    uint8_t writable; /* of most calls */
     uint8_t pad[CASE_PAD_LEN];
     uint8_t vdp[CASE_VDP_LEN];
     uint8_t reg[CASE_REG_LEN];

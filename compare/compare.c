@@ -7,7 +7,7 @@
 #include "cases.h"
 #include "machine.h"
 
-enum { CANARY = 64 };
+enum { CANARY = 64, BLOCK = 1024 };
 #define CANARY_BYTE 0xC5
 
 /* A lent part with canary bytes on both sides. */
@@ -20,7 +20,7 @@ struct part {
 /* One side of the comparison. */
 struct side {
     const struct machine *machine;
-    struct part pad, vdp, reg, journal;
+    struct part image, pad, vdp, reg, journal;
 };
 
 struct outcome {
@@ -36,6 +36,11 @@ struct counts {
     uint64_t tries, accepted;   /* steps, those of runs included */
     uint64_t opcode[256];       /* accepted */
     uint64_t empty_views, shown_views;
+
+    /* of MOVEs into GROM */
+    uint64_t grom_stores, grom_wraps;
+    uint64_t rewritten;           /* steps accepted at an opcode that isn't the one at the case's start */
+    uint64_t grom_refusals[256];
 };
 
 static const struct machine peer_machine = {"peer", peer_step, peer_run, peer_step_back, peer_view};
@@ -61,9 +66,20 @@ static uint8_t *part_bytes(const struct part *p)
     return p->block + CANARY;
 }
 
+/* Most of an image and of VDP RAM is as the case before left it, and under an emulator a copy takes ten times as long
+   as a comparison. */
+static void copy_changed(uint8_t *to, const uint8_t *from, size_t len)
+{
+    for (size_t at = 0; at < len; at += BLOCK) {
+        size_t here = len - at < BLOCK ? len - at : BLOCK;
+        if (memcmp(to + at, from + at, here) != 0)
+            memcpy(to + at, from + at, here);
+    }
+}
+
 static void part_fill(struct part *p, const void *from, size_t len)
 {
-    memcpy(part_bytes(p), from, len);
+    copy_changed(part_bytes(p), from, len);
     p->len = len;
     memset(part_bytes(p) + len, CANARY_BYTE, CANARY);
 }
@@ -84,6 +100,7 @@ static uint32_t *journal_words(const struct side *s)
 static void side_make(struct side *s, const struct machine *machine)
 {
     s->machine = machine;
+    part_make(&s->image, CASE_IMAGE_ROOM);
     part_make(&s->pad, CASE_PAD_LEN + CASE_LENT_EXTRA);
     part_make(&s->vdp, CASE_VDP_LEN + CASE_LENT_EXTRA);
     part_make(&s->reg, CASE_REG_LEN + CASE_LENT_EXTRA);
@@ -92,6 +109,7 @@ static void side_make(struct side *s, const struct machine *machine)
 
 static void side_free(struct side *s)
 {
+    free(s->image.block);
     free(s->pad.block);
     free(s->vdp.block);
     free(s->reg.block);
@@ -100,6 +118,7 @@ static void side_free(struct side *s)
 
 static void side_start(struct side *s, const struct test_case *c)
 {
+    part_fill(&s->image, c->image, c->image_len);
     part_fill(&s->pad, c->pad, CASE_PAD_LEN);
     part_fill(&s->vdp, c->vdp, CASE_VDP_LEN);
     part_fill(&s->reg, c->reg, CASE_REG_LEN);
@@ -131,11 +150,11 @@ static size_t lent_used(const struct call *call, size_t used)
     return call->used_beyond ? call->journal_len + call->used_beyond : used;
 }
 
-static struct outcome make_call(struct side *s, const struct test_case *c, const struct call *call,
-                                uint16_t pc, size_t used)
+static struct outcome make_call(struct side *s, const struct call *call, uint16_t pc, size_t used)
 {
     const struct machine *m = s->machine;
-    uint8_t *pad = part_bytes(&s->pad), *vdp = part_bytes(&s->vdp), *reg = part_bytes(&s->reg);
+    uint8_t *image = part_bytes(&s->image), *pad = part_bytes(&s->pad);
+    uint8_t *vdp = part_bytes(&s->vdp), *reg = part_bytes(&s->reg);
     uint32_t *journal = journal_words(s);
     struct outcome out;
 
@@ -143,16 +162,16 @@ static struct outcome make_call(struct side *s, const struct test_case *c, const
     used = lent_used(call, used);
     switch (call->kind) {
     case CALL_STEP:
-        out.report = m->step(c->image, call->image_len, pad, call->pad_len, vdp, call->vdp_len, reg,
-                             call->reg_len, journal, call->journal_len, pc, used);
+        out.report = m->step(image, call->image_len, pad, call->pad_len, vdp, call->vdp_len, reg,
+                             call->reg_len, journal, call->journal_len, pc, used, call->writable);
         break;
     case CALL_RUN:
-        out.report = m->run(c->image, call->image_len, pad, call->pad_len, vdp, call->vdp_len, reg,
-                            call->reg_len, journal, call->journal_len, pc, used, call->n);
+        out.report = m->run(image, call->image_len, pad, call->pad_len, vdp, call->vdp_len, reg,
+                            call->reg_len, journal, call->journal_len, pc, used, call->writable, call->n);
         break;
     case CALL_BACK:
-        out.report = m->step_back(pad, call->pad_len, vdp, call->vdp_len, reg, call->reg_len, journal,
-                                  call->journal_len, pc, used);
+        out.report = m->step_back(image, call->image_len, pad, call->pad_len, vdp, call->vdp_len, reg,
+                                  call->reg_len, journal, call->journal_len, pc, used, call->writable);
         break;
     case CALL_VIEW:
         out.shown = m->view(call->pad_len, call->vdp_len, call->memory, call->at, call->len, &out.offset);
@@ -181,12 +200,13 @@ static bool same_part(const struct part *a, const struct part *b)
 static bool same_sides(const struct side *a, const struct side *b)
 {
     return same_part(&a->pad, &b->pad) && same_part(&a->vdp, &b->vdp) && same_part(&a->reg, &b->reg) &&
-           same_part(&a->journal, &b->journal);
+           same_part(&a->journal, &b->journal) && same_part(&a->image, &b->image);
 }
 
 static bool guarded(const struct side *s)
 {
-    return part_guarded(&s->pad) && part_guarded(&s->vdp) && part_guarded(&s->reg) && part_guarded(&s->journal);
+    return part_guarded(&s->image) && part_guarded(&s->pad) && part_guarded(&s->vdp) && part_guarded(&s->reg) &&
+           part_guarded(&s->journal);
 }
 
 static void print_outcome(const struct machine *m, const struct outcome *o)
@@ -219,7 +239,8 @@ static void print_journal_difference(const struct side *a, const struct side *b)
 static void print_guards(const struct side *s)
 {
     if (!guarded(s))
-        printf("# %s wrote beside a lent part:%s%s%s%s\n", s->machine->name, part_guarded(&s->pad) ? "" : " pad",
+        printf("# %s wrote beside a lent part:%s%s%s%s%s\n", s->machine->name,
+               part_guarded(&s->image) ? "" : " image", part_guarded(&s->pad) ? "" : " pad",
                part_guarded(&s->vdp) ? "" : " vdp", part_guarded(&s->reg) ? "" : " reg",
                part_guarded(&s->journal) ? "" : " journal");
 }
@@ -262,8 +283,8 @@ static void print_call(const struct call *call)
 {
     printf("# call %s n %" PRIu32 " memory %d at %zu len %zu\n", kind_name[call->kind], call->n, call->memory,
            call->at, call->len);
-    printf("# lent image %zu pad %zu vdp %zu reg %zu journal %zu\n", call->image_len, call->pad_len,
-           call->vdp_len, call->reg_len, call->journal_len);
+    printf("# lent image %zu pad %zu vdp %zu reg %zu journal %zu, writable groups %02X\n", call->image_len,
+           call->pad_len, call->vdp_len, call->reg_len, call->journal_len, call->writable);
     if (call->used_beyond)
         printf("# used lent as the journal's length plus %zu\n", call->used_beyond);
 }
@@ -280,7 +301,7 @@ static void replay(struct side *s, const struct test_case *c, int failing, uint1
         edit_side(s, call, *used);
         if (i == failing)
             break;
-        struct outcome out = make_call(s, c, call, *pc, *used);
+        struct outcome out = make_call(s, call, *pc, *used);
         *pc = out.report.pc;
         if (!call->used_beyond)
             *used = out.report.used;
@@ -295,7 +316,7 @@ static struct outcome replay_run(struct side *s, const struct test_case *c, int 
 
     replay(s, c, failing, &pc, &used);
     call.n = n;
-    return make_call(s, c, &call, pc, used);
+    return make_call(s, &call, pc, used);
 }
 
 /* The step of a run after which the sides first differ. */
@@ -309,7 +330,7 @@ static void print_first_step(struct side *a, struct side *b, const struct test_c
         x = replay_run(a, c, failing, n - 1);
         printf("# a run of %" PRIu32 " differs first: pc %04X, code", n, x.report.pc);
         for (unsigned i = 0; i < 16; i++)
-            printf(" %02X", c->image[(x.report.pc & 0xE000) | ((x.report.pc + i) & 0x1FFF)]);
+            printf(" %02X", part_bytes(&a->image)[(x.report.pc & 0xE000) | ((x.report.pc + i) & 0x1FFF)]);
         printf("\n# pad then");
         for (unsigned i = 0; i < CASE_PAD_LEN; i++)
             printf("%s%02X", i % 32 == 0 ? "\n# " : " ", part_bytes(&a->pad)[i]);
@@ -325,9 +346,9 @@ static void print_state_before(struct side *a, const struct test_case *c, int fa
 
     replay(a, c, failing, &pc, &used);
     print_call(&c->call[failing]);
-    printf("# image length %zu, the program's is 32768\n", c->image_len);
+    printf("# image length %zu, the program's is 32768 and has no writable group\n", c->image_len);
     print_journal(a, used);
-    print_bytes("grom", 4, c->image, c->image_len, 32768);
+    print_bytes("grom", 4, part_bytes(&a->image), c->image_len, 32768);
     print_bytes("pad", 2, part_bytes(&a->pad), a->pad.len, a->pad.len);
     print_bytes("vdp", 4, part_bytes(&a->vdp), a->vdp.len, a->vdp.len);
     print_bytes("reg", 2, part_bytes(&a->reg), a->reg.len, a->reg.len);
@@ -343,6 +364,7 @@ static void print_difference(const struct maker *m, uint64_t number, struct side
            kind_name[c->call[failing].kind]);
     print_outcome(a->machine, x);
     print_outcome(b->machine, y);
+    print_part_difference("image", &a->image, &b->image);
     print_part_difference("pad", &a->pad, &b->pad);
     print_part_difference("vdp", &a->vdp, &b->vdp);
     print_part_difference("reg", &a->reg, &b->reg);
@@ -361,14 +383,45 @@ static bool is_refusal_of_step(uint8_t answer)
     return answer != 0 && answer != 11;
 }
 
-/* The marks of a step or run name the opcodes that were done. */
-static void count_opcodes(struct counts *n, const struct side *s, const struct test_case *c, size_t from, size_t to)
+/* A GROM word and its cell change bytes: from the top down this gives the image as it was, from there up again as it is. */
+static void swap_byte(uint8_t *image, uint32_t *word)
 {
-    for (size_t i = from; i < to; i++) {
-        uint32_t word = journal_words(s)[i];
-        if (word >> 30 == 3)
-            n->opcode[c->image[word & 0xFFFF]]++;
+    uint8_t *cell = image + (*word >> 8 & 0xFFFF);
+    uint8_t byte = *cell;
+    *cell = (uint8_t)*word;
+    *word = (*word & ~0xFFu) | byte;
+}
+
+/* The marks of a step or run name the opcodes that were done, as the image then was. */
+static void count_words(struct counts *n, const struct side *s, const struct test_case *c, size_t from, size_t to)
+{
+    uint32_t *journal = journal_words(s);
+    uint8_t *image = part_bytes(&s->image);
+
+    for (size_t i = to; i > from; i--) {
+        uint32_t *word = &journal[i - 1];
+        if (*word >> 29 == 3) {
+            uint16_t pc = (uint16_t)*word;
+            n->opcode[image[pc]]++;
+            n->rewritten += image[pc] != c->image[pc];
+        } else if (*word >> 29 == 4) {
+            n->grom_stores++;
+            n->grom_wraps += *word >> 8 == 0x800000 && word[-1] >> 8 == 0x80FFFF;
+            swap_byte(image, word);
+        }
     }
+    for (size_t i = from; i < to; i++)
+        if (journal[i] >> 29 == 4)
+            swap_byte(image, &journal[i]);
+}
+
+/* The opcode at which a call was refused. */
+static bool refused_at_move_to_grom(const struct side *s, const struct call *call, const struct outcome *o)
+{
+    if (!is_refusal_of_step(o->report.answer) || o->report.pc >= call->image_len)
+        return false;
+    uint8_t op = part_bytes(&s->image)[o->report.pc];
+    return op >= 0x20 && op <= 0x25;
 }
 
 static void count_call(struct counts *n, const struct side *s, const struct test_case *c,
@@ -387,8 +440,10 @@ static void count_call(struct counts *n, const struct side *s, const struct test
         n->step_answers[o->report.answer]++;
     n->accepted += o->report.steps;
     n->tries += o->report.steps + (is_refusal_of_step(o->report.answer) ? 1 : 0);
+    if (refused_at_move_to_grom(s, call, o))
+        n->grom_refusals[o->report.answer]++;
     if (o->report.answer != 11)
-        count_opcodes(n, s, c, used, o->report.used);
+        count_words(n, s, c, used, o->report.used);
 }
 
 static bool opcode_is_done(int op)
@@ -397,7 +452,7 @@ static bool opcode_is_done(int op)
         return op != 0x03 && op != 0x0B;
     if (op >= 0x30 && op <= 0x3F)
         return (op & 6) != 6;
-    return (op >= 0x40 && op <= 0x97) || (op >= 0xA0 && op <= 0xEB && (op & 0xFE) != 0xC2) || op == 0xED;
+    return (op >= 0x20 && op <= 0x25) || (op >= 0x40 && op <= 0x97) || (op >= 0xA0 && op <= 0xEB && (op & 0xFE) != 0xC2) || op == 0xED;
 }
 
 static void print_counts(const struct counts *n)
@@ -421,6 +476,12 @@ static void print_counts(const struct counts *n)
         never += opcode_is_done(i) && n->opcode[i] == 0;
         wrong += !opcode_is_done(i) && n->opcode[i] != 0;
     }
+    printf("\nMOVEs into GROM: %" PRIu64 " bytes, %" PRIu64 " times past >FFFF, %" PRIu64
+           " steps at a rewritten opcode; refused",
+           n->grom_stores, n->grom_wraps, n->rewritten);
+    for (int i = 0; i < 256; i++)
+        if (n->grom_refusals[i])
+            printf(" %d:%" PRIu64, i, n->grom_refusals[i]);
     printf("\nopcodes never accepted: %d\nopcodes accepted that must not be: %d\n", never, wrong);
 }
 
@@ -439,8 +500,8 @@ static bool compare_case(const struct maker *m, uint64_t number, struct side *a,
         edit_numbers(call, &pc, &used);
         edit_side(a, call, used);
         edit_side(b, call, used);
-        struct outcome x = make_call(a, c, call, pc, used);
-        struct outcome y = make_call(b, c, call, pc, used);
+        struct outcome x = make_call(a, call, pc, used);
+        struct outcome y = make_call(b, call, pc, used);
         if (!same_report(&x.report, &y.report) || x.shown != y.shown || x.offset != y.offset ||
             !same_sides(a, b) || !guarded(a) || !guarded(b)) {
             print_difference(m, number, a, b, c, i, &x, &y);

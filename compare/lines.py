@@ -83,10 +83,14 @@ def format_codes(r, at, depth):
 
 
 def move(r):
-    op = 0x30 | r.choice([0, 1, 2, 3, 4, 5, 8, 9, 10, 11, 12, 13])
+    """Into GROM too, of which the program may write no group: 24, or 6 beyond the image."""
+    op = r.choice([0x20, 0x30, 0x30, 0x38, 0x38]) | r.randrange(6)
     length = r.choice([r.randrange(1, 9), r.randrange(1, 40), 0, 0x8001])
     code = [op] + (word(length) if op & 1 else [0x40 + 2 * r.randrange(8)])
-    code += [r.randrange(9)] if op & 8 else operand(r)
+    if op < 0x30:
+        code += word(r.randrange(0x9000))
+    else:
+        code += [r.randrange(9)] if op & 8 else operand(r)
     if op & 4:
         return code + operand(r)
     return code + word(r.randrange(0x8100)) + ([0x10 + 2 * r.randrange(8)] if op & 2 else [])

@@ -19,38 +19,39 @@ static void spoil(uint64_t out[ARGOLYTHE_OUTS])
 }
 
 /* One step, as the harness asks for it. */
-static peer_report step(const uint8_t *image, size_t image_len, uint8_t *pad, size_t pad_len,
+static peer_report step(uint8_t *image, size_t image_len, uint8_t *pad, size_t pad_len,
                         uint8_t *vdp, size_t vdp_len, uint8_t *reg, size_t reg_len,
-                        uint32_t *journal, size_t journal_len, uint16_t pc, size_t used)
+                        uint32_t *journal, size_t journal_len, uint16_t pc, size_t used, uint8_t writable)
 {
     uint64_t out[ARGOLYTHE_OUTS];
     spoil(out);
     uint8_t answer = argolythe_step(image, image_len, pad, pad_len, vdp, vdp_len, reg, reg_len,
-                                    journal, journal_len, pc, used, out);
+                                    journal, journal_len, pc, used, writable, out);
     return report_of(answer, out);
 }
 
 /* A run, as the harness asks for it. */
-static peer_report run(const uint8_t *image, size_t image_len, uint8_t *pad, size_t pad_len,
+static peer_report run(uint8_t *image, size_t image_len, uint8_t *pad, size_t pad_len,
                        uint8_t *vdp, size_t vdp_len, uint8_t *reg, size_t reg_len,
-                       uint32_t *journal, size_t journal_len, uint16_t pc, size_t used, uint32_t n)
+                       uint32_t *journal, size_t journal_len, uint16_t pc, size_t used, uint8_t writable,
+                       uint32_t n)
 {
     uint64_t out[ARGOLYTHE_OUTS];
     spoil(out);
     uint8_t answer = argolythe_run(image, image_len, pad, pad_len, vdp, vdp_len, reg, reg_len,
-                                   journal, journal_len, pc, used, n, out);
+                                   journal, journal_len, pc, used, writable, n, out);
     return report_of(answer, out);
 }
 
 /* The archive counts a step taken back as one step, the peer as none: any other count stays a difference. */
-static peer_report step_back(uint8_t *pad, size_t pad_len, uint8_t *vdp, size_t vdp_len,
-                             uint8_t *reg, size_t reg_len, uint32_t *journal, size_t journal_len,
-                             uint16_t pc, size_t used)
+static peer_report step_back(uint8_t *image, size_t image_len, uint8_t *pad, size_t pad_len,
+                             uint8_t *vdp, size_t vdp_len, uint8_t *reg, size_t reg_len,
+                             uint32_t *journal, size_t journal_len, uint16_t pc, size_t used, uint8_t writable)
 {
     uint64_t out[ARGOLYTHE_OUTS];
     spoil(out);
-    uint8_t answer = argolythe_step_back(pad, pad_len, vdp, vdp_len, reg, reg_len,
-                                         journal, journal_len, pc, used, out);
+    uint8_t answer = argolythe_step_back(image, image_len, pad, pad_len, vdp, vdp_len, reg, reg_len,
+                                         journal, journal_len, pc, used, writable, out);
     out[ARGOLYTHE_OUT_STEPS] -= answer == ARGOLYTHE_DONE ? 1 : 0;
     return report_of(answer, out);
 }

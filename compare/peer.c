@@ -44,18 +44,21 @@ enum {
     BAD_LENGTH = 11,
     NO_RECORD = 12,
     BAD_REGISTER = 13,
-    TOO_COARSE = 23 /* 02, item 3 */
+    TOO_COARSE = 23, /* 02, item 3 */
+    READ_ONLY = 24   /* 02, item 9 */
 };
 
 /* "Status": the five flags, and the parity of 02, item 6 */
 enum { HIGH = 0x80, GREATER = 0x40, CONDITION = 0x20, CARRY = 0x10, OVERFLOW = 0x08, PARITY = 0x04 };
 
-/* "Journal words: kind times 2^30" */
+/* 02, item 9: "a fourth memory, kind 4, so its words change: kind times 2^29" */
 #define KIND_CPU 0u
 #define KIND_VDP 1u
 #define KIND_REG 2u
 #define KIND_MARK 3u
-#define KIND_SHIFT 30
+#define KIND_GROM 4u
+#define KIND_SHIFT 29
+#define MARK_SURPLUS 0x1FFF0000u /* between a mark's kind and its pc */
 
 #define FORMAT_CODES 16384u
 
@@ -69,7 +72,7 @@ enum space { CPU, VDP, REG, GROM };
 #define REFUSED UINT32_MAX
 
 struct bench {
-    const uint8_t *image;
+    uint8_t *image;
     uint8_t *pad;
     uint8_t *vdp;
     uint8_t *reg;
@@ -78,6 +81,7 @@ struct bench {
     size_t used;
     uint32_t image_len;
     uint16_t pc;
+    uint8_t writable;
     uint8_t why;    /* set when a helper returns false */
     uint16_t where; /* set with it */
 };
@@ -179,6 +183,26 @@ static inline bool store_reg(struct bench *b, uint32_t at, uint32_t byte)
     if (!keep(b, KIND_REG, at, b->reg[at]))
         return false;
     b->reg[at] = (uint8_t)byte;
+    return true;
+}
+
+/* "groups named writable by the caller": bit g for group g */
+static inline bool may_write(uint8_t writable, uint32_t at)
+{
+    return writable >> at / GROUP_LEN & 1;
+}
+
+/* "a two-byte address that counts in 16 bits"; "24 group not writable, just after 6 for that byte, both before 10" */
+static inline bool store_grom(struct bench *b, uint32_t at, uint32_t byte)
+{
+    at &= 0xFFFF;
+    if (at >= b->image_len)
+        return refuse_at(b, BAD_GROM, at);
+    if (!may_write(b->writable, at))
+        return refuse(b, READ_ONLY);
+    if (!keep(b, KIND_GROM, at, b->image[at]))
+        return false;
+    b->image[at] = (uint8_t)byte;
     return true;
 }
 
@@ -293,6 +317,13 @@ static inline uint32_t read_value(struct bench *b, uint32_t place, uint32_t widt
         !store_cpu(b, CHARACTER, b->vdp[screen_position(b)]))
         return REFUSED;
     return value_at(b->pad + place, width);
+}
+
+/* The word that an operand names, read in 01's way. */
+static inline uint32_t word_operand(struct bench *b)
+{
+    uint32_t place = decode(b, 2);
+    return place == REFUSED ? REFUSED : read_value(b, place, 2);
 }
 
 static inline bool store_result(struct bench *b, uint32_t place, uint32_t width, uint32_t value)
@@ -589,6 +620,8 @@ static inline bool move_store(struct bench *b, enum space space, uint32_t at, ui
         return store_cpu(b, at, byte);
     case VDP:
         return store_vdp(b, at, byte);
+    case GROM:
+        return store_grom(b, at, byte);
     default:
         /* "A byte for register 1 has bit >80 set and goes to >D4 first, then to the register." */
         if (at == 1) {
@@ -600,13 +633,61 @@ static inline bool move_store(struct bench *b, enum space space, uint32_t at, ui
     }
 }
 
+/* Where a MOVE's bytes come from or go to. */
+struct end {
+    enum space space;
+    uint32_t at;
+};
+
+/* "its source and destination operands only name a place" */
+static bool move_operand(struct bench *b, struct end *end)
+{
+    uint32_t place = decode(b, 1);
+    if (place == REFUSED)
+        return false;
+    *end = (struct end){space_of(place), address_of(place)};
+    return true;
+}
+
+/* "length (bit 0: two bytes, else a word operand)" */
+static inline uint32_t move_length(struct bench *b, uint32_t op)
+{
+    return op & 1 ? next_word(b) : word_operand(b);
+}
+
+/* "destination (bit 3: a register number)"; 02, item 9: "Opcodes >20 to >25 become MOVE into GROM" */
+static inline bool move_destination(struct bench *b, uint32_t op, struct end *to)
+{
+    if (op < 0x30)
+        *to = (struct end){GROM, next_word(b)};
+    else if (op & 8)
+        *to = (struct end){REG, next_byte(b)};
+    else
+        return move_operand(b, to);
+    return true;
+}
+
+/* "source (bit 2: operand; else a two-byte GROM address, with bit 1 a further byte naming a pad word to add)" */
+static inline bool move_source(struct bench *b, uint32_t op, struct end *from)
+{
+    if (op & 4)
+        return move_operand(b, from);
+    *from = (struct end){GROM, next_word(b)};
+    if (op & 2) {
+        uint32_t index = pad_word(b, next_byte(b));
+        if (index == REFUSED)
+            return false;
+        from->at += index;
+    }
+    return true;
+}
+
 /* "bytes go one by one" */
-static bool move_bytes(struct bench *b, uint32_t count, enum space to_space, uint32_t to,
-                       enum space from_space, uint32_t from)
+static bool move_bytes(struct bench *b, uint32_t count, struct end to, struct end from)
 {
     for (uint32_t i = 0; i < count; i++) {
-        uint32_t byte = read_byte(b, from_space, from + i);
-        if (byte == REFUSED || !move_store(b, to_space, to + i, byte))
+        uint32_t byte = read_byte(b, from.space, from.at + i);
+        if (byte == REFUSED || !move_store(b, to.space, to.at + i, byte))
             return false;
     }
     return true;
@@ -615,50 +696,15 @@ static bool move_bytes(struct bench *b, uint32_t count, enum space to_space, uin
 /* "MOVE: length, destination, source" */
 static bool move(struct bench *b, uint32_t op)
 {
-    enum space to_space = REG, from_space = GROM;
-    uint32_t length, to, from;
+    struct end to, from;
+    uint32_t length = move_length(b, op);
 
-    if (op & 1) { /* "bit 0: two bytes, else a word operand" */
-        length = next_word(b);
-    } else {
-        uint32_t place = decode(b, 2);
-        if (place == REFUSED)
-            return false;
-        length = read_value(b, place, 2);
-        if (length == REFUSED)
-            return false;
-    }
-
-    if (op & 8) { /* "bit 3: a register number" */
-        to = next_byte(b);
-    } else {
-        uint32_t place = decode(b, 1);
-        if (place == REFUSED)
-            return false;
-        to_space = space_of(place);
-        to = address_of(place);
-    }
-
-    if (op & 4) { /* "bit 2: operand" */
-        uint32_t place = decode(b, 1);
-        if (place == REFUSED)
-            return false;
-        from_space = space_of(place);
-        from = address_of(place);
-    } else { /* "else a two-byte GROM address" */
-        from = next_word(b);
-        if (op & 2) { /* "with bit 1 a further byte naming a pad word to add" */
-            uint32_t index = pad_word(b, next_byte(b));
-            if (index == REFUSED)
-                return false;
-            from += index;
-        }
-    }
-
+    if (length == REFUSED || !move_destination(b, op, &to) || !move_source(b, op, &from))
+        return false;
     /* "L from 1 to >8000 moves L bytes, any other moves one." */
     uint32_t count = length >= 1 && length <= 0x8000 ? length : 1;
     /* "pc is pushed, bytes go one by one, pc is popped from wherever >73 then points" */
-    return push_pc(b) && move_bytes(b, count, to_space, to, from_space, from) && pop_pc(b);
+    return push_pc(b) && move_bytes(b, count, to, from) && pop_pc(b);
 }
 
 /* ---- format strings ---- */
@@ -851,13 +897,6 @@ static inline bool within(int32_t sum, uint32_t limit)
     return sum >= 0 && (uint32_t)sum <= limit;
 }
 
-/* The word that an operand names, read in 01's way. */
-static inline uint32_t word_operand(struct bench *b)
-{
-    uint32_t place = decode(b, 2);
-    return place == REFUSED ? REFUSED : read_value(b, place, 2);
-}
-
 /* "two word operands as row and column pairs, then a granularity byte and a table address" */
 static bool coincide(struct bench *b)
 {
@@ -1009,7 +1048,7 @@ static inline bool execute(struct bench *b, uint32_t op)
         return branch(b, op, (b->pad[STATUS] & CONDITION) != 0);
     if (op >= 0x40) /* "BR taken if condition is clear" */
         return branch(b, op, (b->pad[STATUS] & CONDITION) == 0);
-    if (op >= 0x30)
+    if (op >= 0x20)
         return move(b, op);
     switch (op) {
     case 0x00: /* RTN: a cleared condition "before its pop" */
@@ -1054,6 +1093,8 @@ static inline uint8_t opcode_answer(uint32_t op)
         return DONE;
     if (op >= 0x30)
         return (op & 6) == 6 ? NO_INSTRUCTION : DONE; /* ">36, >37, >3E, >3F" */
+    if (op >= 0x20)
+        return op <= 0x25 ? DONE : NO_INSTRUCTION; /* 02, item 9: ">26 to >2F still answer 2" */
     if (op == 0x03 || op == 0x0F)
         return NEEDS_HOST;
     if (op == 0x0B)
@@ -1061,31 +1102,34 @@ static inline uint8_t opcode_answer(uint32_t op)
     return op <= 0x0D ? DONE : NO_INSTRUCTION;
 }
 
-/* Puts back what a journal word of kind 0, 1 or 2 names. */
-static inline void restore(uint8_t *pad, uint8_t *vdp, uint8_t *reg, uint32_t word)
+/* The address of a journal word, between its kind and its byte. */
+static inline uint32_t address_in(uint32_t word)
 {
-    uint32_t at = word >> 8 & 0x3FFFFF;
-    switch (word >> KIND_SHIFT) {
-    case KIND_CPU:
-        pad[at] = (uint8_t)word;
-        break;
-    case KIND_VDP:
-        vdp[at] = (uint8_t)word;
-        break;
-    case KIND_REG:
-        reg[at] = (uint8_t)word;
-        break;
+    return word >> 8 & 0x1FFFFF;
+}
+
+/* Takes words off the top of the journal, down to the count given: each cell gets back the byte that stood there. */
+static inline void take_off(uint8_t *image, uint8_t *pad, uint8_t *vdp, uint8_t *reg, uint32_t *journal, size_t from,
+                            size_t to)
+{
+    uint8_t *const memory[] = {
+        [KIND_CPU] = pad, [KIND_VDP] = vdp, [KIND_REG] = reg, [KIND_MARK] = NULL, [KIND_GROM] = image};
+
+    while (from > to) {
+        uint32_t word = journal[--from];
+        uint32_t kind = word >> KIND_SHIFT;
+        journal[from] = 0;
+        if (kind != KIND_MARK) /* a mark names no cell */
+            memory[kind][address_in(word)] = (uint8_t)word;
     }
 }
 
-/* "A refused step puts all back; the journal words it had taken become 0." */
+/* "A refused step puts all back; the journal words it had taken become 0."
+   02, item 9: "A refused step returns the image too". */
 static void put_back(struct bench *b, size_t used)
 {
-    while (b->used > used) {
-        b->used--;
-        restore(b->pad, b->vdp, b->reg, b->journal[b->used]);
-        b->journal[b->used] = 0;
-    }
+    take_off(b->image, b->pad, b->vdp, b->reg, b->journal, b->used, used);
+    b->used = used;
 }
 
 /* Everything of a step that moves pc or stores; put back by its caller if refused. */
@@ -1122,28 +1166,29 @@ static inline bool step(struct bench *b)
 
 /* ---- the calls ---- */
 
-/* "a lent part has a wrong length, or used exceeds the journal" */
-static bool bad_memories(size_t pad_len, size_t vdp_len, size_t reg_len, size_t journal_len, size_t used)
-{
-    return pad_len != PAD_LEN || vdp_len != VDP_LEN || reg_len != REG_LEN ||
-           journal_len > JOURNAL_MAX || used > journal_len;
-}
-
 /* "1 to 8 groups of 8,192 bytes" */
 static bool bad_image(size_t image_len)
 {
     return image_len == 0 || image_len > (size_t)MAX_GROUPS * GROUP_LEN || image_len % GROUP_LEN != 0;
 }
 
-peer_report peer_run(const uint8_t *image, size_t image_len,
+/* "a lent part has a wrong length, or used exceeds the journal" */
+static bool bad_lengths(size_t image_len, size_t pad_len, size_t vdp_len, size_t reg_len, size_t journal_len,
+                        size_t used)
+{
+    return bad_image(image_len) || pad_len != PAD_LEN || vdp_len != VDP_LEN || reg_len != REG_LEN ||
+           journal_len > JOURNAL_MAX || used > journal_len;
+}
+
+peer_report peer_run(uint8_t *image, size_t image_len,
                      uint8_t *pad, size_t pad_len,
                      uint8_t *vdp, size_t vdp_len,
                      uint8_t *reg, size_t reg_len,
                      uint32_t *journal, size_t journal_len,
-                     uint16_t pc, size_t used, uint32_t n)
+                     uint16_t pc, size_t used, uint8_t writable, uint32_t n)
 {
     /* "Answer 11 is tested first and touches nothing." */
-    if (bad_image(image_len) || bad_memories(pad_len, vdp_len, reg_len, journal_len, used))
+    if (bad_lengths(image_len, pad_len, vdp_len, reg_len, journal_len, used))
         return (peer_report){BAD_LENGTH, pc, used, 0, 0, 0};
 
     struct bench b = {
@@ -1156,6 +1201,7 @@ peer_report peer_run(const uint8_t *image, size_t image_len,
         .used = used,
         .image_len = (uint32_t)image_len,
         .pc = pc,
+        .writable = writable,
         .why = DONE,
         .where = 0,
     };
@@ -1168,21 +1214,22 @@ peer_report peer_run(const uint8_t *image, size_t image_len,
     return (peer_report){b.why, b.pc, b.used, steps, b.used - used - steps, b.where};
 }
 
-peer_report peer_step(const uint8_t *image, size_t image_len,
+peer_report peer_step(uint8_t *image, size_t image_len,
                       uint8_t *pad, size_t pad_len,
                       uint8_t *vdp, size_t vdp_len,
                       uint8_t *reg, size_t reg_len,
                       uint32_t *journal, size_t journal_len,
-                      uint16_t pc, size_t used)
+                      uint16_t pc, size_t used, uint8_t writable)
 {
     return peer_run(image, image_len, pad, pad_len, vdp, vdp_len, reg, reg_len,
-                    journal, journal_len, pc, used, 1);
+                    journal, journal_len, pc, used, writable, 1);
 }
 
-/* "names no cell (pad above >DF, register above 7, VDP above >3FFF) or has a surplus bit" */
-static bool sound(uint32_t word)
+/* "names no cell (pad above >DF, register above 7, VDP above >3FFF) or has a surplus bit";
+   02, item 9: "kinds 5 to 7 and kind 4 outside those groups or beyond the image" */
+static bool sound(uint32_t word, size_t image_len, uint8_t writable)
 {
-    uint32_t at = word >> 8 & 0x3FFFFF;
+    uint32_t at = address_in(word);
     switch (word >> KIND_SHIFT) {
     case KIND_CPU:
         return at <= PAD_LAST;
@@ -1190,34 +1237,36 @@ static bool sound(uint32_t word)
         return at <= VDP_LAST;
     case KIND_REG:
         return at <= REG_LAST;
+    case KIND_MARK:
+        return (word & MARK_SURPLUS) == 0;
+    case KIND_GROM:
+        return at < image_len && may_write(writable, at);
     default:
-        return (word & 0x3FFF0000u) == 0;
+        return false;
     }
 }
 
-peer_report peer_step_back(uint8_t *pad, size_t pad_len,
+peer_report peer_step_back(uint8_t *image, size_t image_len,
+                           uint8_t *pad, size_t pad_len,
                            uint8_t *vdp, size_t vdp_len,
                            uint8_t *reg, size_t reg_len,
                            uint32_t *journal, size_t journal_len,
-                           uint16_t pc, size_t used)
+                           uint16_t pc, size_t used, uint8_t writable)
 {
-    if (bad_memories(pad_len, vdp_len, reg_len, journal_len, used))
+    if (bad_lengths(image_len, pad_len, vdp_len, reg_len, journal_len, used))
         return (peer_report){BAD_LENGTH, pc, used, 0, 0, 0};
 
     /* "takes words from the top down to the newest mark" */
     size_t mark = used;
     do {
-        if (mark == 0 || !sound(journal[mark - 1]))
+        if (mark == 0 || !sound(journal[mark - 1], image_len, writable))
             return (peer_report){NO_RECORD, pc, used, 0, 0, 0};
         mark--;
     } while (journal[mark] >> KIND_SHIFT != KIND_MARK);
 
     /* "restores each, sets pc, zeroes them" */
     uint16_t old_pc = (uint16_t)journal[mark];
-    for (size_t i = used; i > mark; i--) {
-        restore(pad, vdp, reg, journal[i - 1]);
-        journal[i - 1] = 0;
-    }
+    take_off(image, pad, vdp, reg, journal, used, mark);
     return (peer_report){DONE, old_pc, mark, 0, 0, 0};
 }
 

@@ -17,28 +17,30 @@ typedef struct {
     uint16_t address;
 } peer_report;
 
-/* One instruction at pc. */
-peer_report peer_step(const uint8_t *image, size_t image_len,
+/* One instruction at pc.  writable has bit g set for each group g of the
+   image that may be written (02, item 9). */
+peer_report peer_step(uint8_t *image, size_t image_len,
                       uint8_t *pad, size_t pad_len,
                       uint8_t *vdp, size_t vdp_len,
                       uint8_t *reg, size_t reg_len,
                       uint32_t *journal, size_t journal_len,
-                      uint16_t pc, size_t used);
+                      uint16_t pc, size_t used, uint8_t writable);
 
 /* Up to n instructions; stops at the first answer other than 0. */
-peer_report peer_run(const uint8_t *image, size_t image_len,
+peer_report peer_run(uint8_t *image, size_t image_len,
                      uint8_t *pad, size_t pad_len,
                      uint8_t *vdp, size_t vdp_len,
                      uint8_t *reg, size_t reg_len,
                      uint32_t *journal, size_t journal_len,
-                     uint16_t pc, size_t used, uint32_t n);
+                     uint16_t pc, size_t used, uint8_t writable, uint32_t n);
 
 /* Takes the newest record out of the journal and restores what it names. */
-peer_report peer_step_back(uint8_t *pad, size_t pad_len,
+peer_report peer_step_back(uint8_t *image, size_t image_len,
+                           uint8_t *pad, size_t pad_len,
                            uint8_t *vdp, size_t vdp_len,
                            uint8_t *reg, size_t reg_len,
                            uint32_t *journal, size_t journal_len,
-                           uint16_t pc, size_t used);
+                           uint16_t pc, size_t used, uint8_t writable);
 
 /* memory: 0 CPU, 1 VDP.  Returns the number of bytes shown (0: empty) and
    their offset in that memory in *offset (0 if empty). */

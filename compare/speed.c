@@ -16,6 +16,7 @@ enum {
     VDP_LEN = ARGOLYTHE_VDP,
     REG_LEN = ARGOLYTHE_REG,
     JOURNAL_LEN = ARGOLYTHE_JOURNAL_MAX,
+    WRITABLE = 0x02, /* the group at >2000, which has no code */
     ROUNDS = 3,
     SLICES = 8 /* the two take turns so often in a round */
 };
@@ -72,6 +73,11 @@ static const struct work works[] = {
     {"MOVE 192, pad to VDP", RUN, 8000, 0, "3500C0A10000" "050000"},
     {"MOVE 8192, GROM to VDP", RUN, 200, 0, "312000A1000400" "050000"},
     {"MOVE 8192, VDP to VDP", RUN, 200, 0, "352000AF2000A000" "050000"},
+    {"MOVE 1, GROM to GROM", RUN, 100000, 0,
+     "21000121000400" "21000121010401" "21000121020402" "21000121030403"
+     "21000121040404" "21000121050405" "21000121060406" "21000121070407" "050000"},
+    {"MOVE 256, VDP to GROM", RUN, 6000, 0, "2501002100A200" "050000"},
+    {"MOVE 7936, GROM to GROM", RUN, 200, 0, "211F0021000400" "050000"},
     /* row 0, column 0, a block of 24 lines of 32 stars */
     {"FMT, a screen by a block", RUN, 800, 0, "08FE00FF00D75F2AFB0006FB" "050000"},
     /* bias, text across and down, a skip, text from the pad, a repeat down, a block of two short texts */
@@ -80,6 +86,8 @@ static const struct work works[] = {
     {"ALL", RUN, 2000, 0, "0720" "050000"},
     /* its last byte would go to VDP >4000 */
     {"refused MOVE 8192", REFUSED, 1, 8191 + 3, "312000AF20010400"},
+    /* its last byte would go to GROM >4000 */
+    {"refused MOVE 7937 to GROM", REFUSED, 1, 7936 + 3, "211F0121000400"},
     /* DMUL of the word at >DE, whose low half has no cell */
     {"refused DMUL", REFUSED, 1, 2, "A980DE40"},
     {"step-backs, arithmetic", BACKS, 50000, 0,
@@ -91,6 +99,7 @@ static const struct work works[] = {
 
 /* What a side is lent, and where it stands. */
 struct side {
+    uint8_t image[IMAGE_LEN];
     uint8_t pad[PAD_LEN];
     uint8_t vdp[VDP_LEN];
     uint8_t reg[REG_LEN];
@@ -104,8 +113,6 @@ struct tally {
     double ns;
 };
 
-static uint8_t image[IMAGE_LEN];
-
 /* ---- the same start for both ---- */
 
 /* A digit of the code, which is in capitals. */
@@ -115,7 +122,7 @@ static unsigned digit(char c)
 }
 
 /* The image: bytes that differ, with the code at its start. */
-static void make_image(const char *code)
+static void make_image(uint8_t image[IMAGE_LEN], const char *code)
 {
     for (unsigned i = 0; i < IMAGE_LEN; i++)
         image[i] = (uint8_t)(i * 7 + i / 256);
@@ -131,8 +138,9 @@ static void set_word(struct side *s, unsigned at, unsigned word)
 }
 
 /* Memories in which every operand of the works above names a cell. */
-static void prepare(struct side *s)
+static void prepare(struct side *s, const char *code)
 {
+    make_image(s->image, code);
     for (unsigned i = 0; i < PAD_LEN; i++)
         s->pad[i] = (uint8_t)(i * 37 + 11);
     for (unsigned i = 0; i < VDP_LEN; i++)
@@ -181,8 +189,8 @@ static inline void count_out(struct tally *t, uint64_t answer, const uint64_t *o
 /* One run of the peer's, from an empty journal. */
 static size_t peer_runs(struct side *s, uint32_t n, struct tally *t)
 {
-    peer_report r = peer_run(image, IMAGE_LEN, s->pad, PAD_LEN, s->vdp, VDP_LEN, s->reg, REG_LEN, s->journal,
-                             JOURNAL_LEN, s->pc, 0, n);
+    peer_report r = peer_run(s->image, IMAGE_LEN, s->pad, PAD_LEN, s->vdp, VDP_LEN, s->reg, REG_LEN, s->journal,
+                             JOURNAL_LEN, s->pc, 0, WRITABLE, n);
     s->pc = r.pc;
     count(t, r.answer, r.pc, r.used, r.steps, r.stores, r.address);
     return r.used;
@@ -192,8 +200,8 @@ static size_t peer_runs(struct side *s, uint32_t n, struct tally *t)
 static size_t our_runs(struct side *s, uint32_t n, struct tally *t)
 {
     uint64_t out[ARGOLYTHE_OUTS];
-    uint8_t answer = argolythe_run(image, IMAGE_LEN, s->pad, PAD_LEN, s->vdp, VDP_LEN, s->reg, REG_LEN, s->journal,
-                                   JOURNAL_LEN, s->pc, 0, n, out);
+    uint8_t answer = argolythe_run(s->image, IMAGE_LEN, s->pad, PAD_LEN, s->vdp, VDP_LEN, s->reg, REG_LEN, s->journal,
+                                   JOURNAL_LEN, s->pc, 0, WRITABLE, n, out);
     s->pc = (uint16_t)out[ARGOLYTHE_OUT_PC];
     count_out(t, answer, out);
     return (size_t)out[ARGOLYTHE_OUT_USED];
@@ -204,8 +212,8 @@ static void peer_steps(struct side *s, uint32_t n, struct tally *t)
 {
     size_t used = 0;
     for (uint32_t i = 0; i < n; i++) {
-        peer_report r = peer_step(image, IMAGE_LEN, s->pad, PAD_LEN, s->vdp, VDP_LEN, s->reg, REG_LEN, s->journal,
-                                  JOURNAL_LEN, s->pc, used);
+        peer_report r = peer_step(s->image, IMAGE_LEN, s->pad, PAD_LEN, s->vdp, VDP_LEN, s->reg, REG_LEN, s->journal,
+                                  JOURNAL_LEN, s->pc, used, WRITABLE);
         s->pc = r.pc;
         used = r.used;
         count(t, r.answer, r.pc, r.used, r.steps, r.stores, r.address);
@@ -218,8 +226,8 @@ static void our_steps(struct side *s, uint32_t n, struct tally *t)
     size_t used = 0;
     uint64_t out[ARGOLYTHE_OUTS];
     for (uint32_t i = 0; i < n; i++) {
-        uint8_t answer = argolythe_step(image, IMAGE_LEN, s->pad, PAD_LEN, s->vdp, VDP_LEN, s->reg, REG_LEN,
-                                        s->journal, JOURNAL_LEN, s->pc, used, out);
+        uint8_t answer = argolythe_step(s->image, IMAGE_LEN, s->pad, PAD_LEN, s->vdp, VDP_LEN, s->reg, REG_LEN,
+                                        s->journal, JOURNAL_LEN, s->pc, used, WRITABLE, out);
         s->pc = (uint16_t)out[ARGOLYTHE_OUT_PC];
         used = (size_t)out[ARGOLYTHE_OUT_USED];
         count_out(t, answer, out);
@@ -230,8 +238,8 @@ static void our_steps(struct side *s, uint32_t n, struct tally *t)
 static void peer_backs(struct side *s, uint32_t n, size_t used, struct tally *t)
 {
     for (uint32_t i = 0; i < n; i++) {
-        peer_report r = peer_step_back(s->pad, PAD_LEN, s->vdp, VDP_LEN, s->reg, REG_LEN, s->journal, JOURNAL_LEN,
-                                       s->pc, used);
+        peer_report r = peer_step_back(s->image, IMAGE_LEN, s->pad, PAD_LEN, s->vdp, VDP_LEN, s->reg, REG_LEN,
+                                       s->journal, JOURNAL_LEN, s->pc, used, WRITABLE);
         s->pc = r.pc;
         used = r.used;
         count(t, r.answer, r.pc, r.used, 0, r.stores, r.address);
@@ -243,8 +251,8 @@ static void our_backs(struct side *s, uint32_t n, size_t used, struct tally *t)
 {
     uint64_t out[ARGOLYTHE_OUTS];
     for (uint32_t i = 0; i < n; i++) {
-        uint8_t answer = argolythe_step_back(s->pad, PAD_LEN, s->vdp, VDP_LEN, s->reg, REG_LEN, s->journal,
-                                             JOURNAL_LEN, s->pc, used, out);
+        uint8_t answer = argolythe_step_back(s->image, IMAGE_LEN, s->pad, PAD_LEN, s->vdp, VDP_LEN, s->reg, REG_LEN,
+                                             s->journal, JOURNAL_LEN, s->pc, used, WRITABLE, out);
         s->pc = (uint16_t)out[ARGOLYTHE_OUT_PC];
         used = (size_t)out[ARGOLYTHE_OUT_USED];
         count(t, answer, out[ARGOLYTHE_OUT_PC], out[ARGOLYTHE_OUT_USED], 0, out[ARGOLYTHE_OUT_STORES],
@@ -296,7 +304,7 @@ static void slice(const struct work *w, struct side *s, bool ours, uint64_t repe
 static bool same(const struct side *a, const struct tally *x, const struct side *b, const struct tally *y)
 {
     return x->steps == y->steps && x->stores == y->stores && x->sum == y->sum && a->pc == b->pc &&
-           memcmp(a->pad, b->pad, PAD_LEN) == 0 && memcmp(a->vdp, b->vdp, VDP_LEN) == 0 &&
+           memcmp(a->image, b->image, IMAGE_LEN) == 0 && memcmp(a->pad, b->pad, PAD_LEN) == 0 && memcmp(a->vdp, b->vdp, VDP_LEN) == 0 &&
            memcmp(a->reg, b->reg, REG_LEN) == 0 &&
            memcmp(a->journal, b->journal, JOURNAL_LEN * sizeof(uint32_t)) == 0;
 }
@@ -347,9 +355,8 @@ static bool time_work(const struct work *w, struct side *peer, struct side *ours
     struct tally x = {0}, y = {0};
     double peer_ns[ROUNDS], our_ns[ROUNDS], ratio[ROUNDS], stores_a_step = 0;
 
-    make_image(w->code);
-    prepare(peer);
-    prepare(ours);
+    prepare(peer, w->code);
+    prepare(ours, w->code);
     uint64_t repeats = fixed ? fixed : warm_up(w, peer, ours, &x, &y);
     for (int round = 0; round < ROUNDS; round++) {
         struct tally before_x = x, before_y = y;

@@ -1,4 +1,5 @@
-/* Runs four instructions to their end, looks at what they left, and walks back to the start. */
+/* Runs four instructions to their end, looks at what they left, and walks back to the start; then a card
+ * that writes itself. */
 #include "argolythe.h"
 #include <stdio.h>
 
@@ -9,6 +10,9 @@ static uint8_t image[ARGOLYTHE_GROUP] = {
     0x94, 0x10,             /* 0005  INCT pad >10 */
     0xBE, 0xA1, 0x00, 0x41, /* 0007  ST   >41 to VDP >0100 */
     0x0B,                   /* 000B  EXIT */
+    [0x20] =
+    0x25, 0x00, 0x01, 0x00, 0x26, 0x11, /* 0020  MOVE 1 byte from pad >11 to GROM >0026 */
+    0x92, 0x10,                         /* 0026  DEC  pad >10 */
 };
 static uint8_t pad[ARGOLYTHE_PAD];
 static uint8_t vdp[ARGOLYTHE_VDP];
@@ -16,6 +20,7 @@ static uint8_t reg[ARGOLYTHE_REG];
 static uint32_t journal[64];
 static uint16_t pc;
 static size_t used;
+static uint8_t writable; /* bit 0 for group 0, the only one here */
 
 static int wrong; /* how many things were not as expected */
 
@@ -37,7 +42,7 @@ static void keep(const uint64_t *out)
 static uint8_t run(uint32_t n, uint64_t *out)
 {
     uint8_t answer = argolythe_run(image, sizeof image, pad, sizeof pad, vdp, sizeof vdp,
-                                   reg, sizeof reg, journal, 64, pc, used, n, out);
+                                   reg, sizeof reg, journal, 64, pc, used, writable, n, out);
     keep(out);
     return answer;
 }
@@ -45,15 +50,15 @@ static uint8_t run(uint32_t n, uint64_t *out)
 static uint8_t step(uint64_t *out)
 {
     uint8_t answer = argolythe_step(image, sizeof image, pad, sizeof pad, vdp, sizeof vdp,
-                                    reg, sizeof reg, journal, 64, pc, used, out);
+                                    reg, sizeof reg, journal, 64, pc, used, writable, out);
     keep(out);
     return answer;
 }
 
 static uint8_t step_back(uint64_t *out)
 {
-    uint8_t answer = argolythe_step_back(pad, sizeof pad, vdp, sizeof vdp, reg, sizeof reg,
-                                         journal, 64, pc, used, out);
+    uint8_t answer = argolythe_step_back(image, sizeof image, pad, sizeof pad, vdp, sizeof vdp,
+                                         reg, sizeof reg, journal, 64, pc, used, writable, out);
     keep(out);
     return answer;
 }
@@ -132,6 +137,29 @@ static void back_to_the_start(void)
            "all is as it was at first");
 }
 
+static void a_card_that_writes_itself(void)
+{
+    uint64_t out[ARGOLYTHE_OUTS];
+    pad[0x73] = 0x7E; /* the empty subroutine stack, where a MOVE keeps pc */
+    pad[0x11] = 0x90; /* INC, to be moved over the DEC */
+    pc = 0x0020;
+    uint8_t answer = run(2, out);
+    printf("A MOVE into GROM answers %d (24: group not writable).\n", answer);
+    expect(answer == ARGOLYTHE_READ_ONLY && pc == 0x0020 && image[0x26] == 0x92, "the image is as it was");
+
+    writable = 0x01;
+    answer = run(2, out);
+    printf("With group 0 writable it answers %d: GROM >0026 holds %02X, and pad >10 holds %02X.\n", answer,
+           image[0x26], (unsigned)see(ARGOLYTHE_SEE_CPU, 0x10));
+    expect(answer == ARGOLYTHE_DONE && out[ARGOLYTHE_OUT_STEPS] == 2, "2 steps");
+    expect(image[0x26] == 0x90 && see(ARGOLYTHE_SEE_CPU, 0x10) == 1, "what ran is the INC");
+
+    uint8_t first = step_back(out), second = step_back(out);
+    printf("Two steps back answer %d and %d: GROM >0026 holds %02X.\n", first, second, image[0x26]);
+    expect(first == ARGOLYTHE_DONE && second == ARGOLYTHE_DONE && image[0x26] == 0x92 && pc == 0x0020 && used == 0,
+           "the DEC is back");
+}
+
 int main(void)
 {
     to_the_end();
@@ -139,6 +167,7 @@ int main(void)
     past_the_end();
     beyond_the_image();
     back_to_the_start();
+    a_card_that_writes_itself();
     printf(wrong ? "Something was not as expected.\n" : "All as expected.\n");
     return wrong ? 1 : 0;
 }

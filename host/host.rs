@@ -1,26 +1,28 @@
-// The same library from Rust: a slice is a pointer and a length. One step, and one back.
+// The same library from Rust: a slice is a pointer and a length. Two steps, the second of which writes the card, and two back.
 extern "C" {
     #[rustfmt::skip]
     fn argolythe_step(
-        image: *const u8, image_len: usize, pad: *mut u8, pad_len: usize,
+        image: *mut u8, image_len: usize, pad: *mut u8, pad_len: usize,
         vdp: *mut u8, vdp_len: usize, reg: *mut u8, reg_len: usize,
-        journal: *mut u32, journal_len: usize, pc: u16, used: usize, out: *mut u64,
+        journal: *mut u32, journal_len: usize, pc: u16, used: usize, writable: u8, out: *mut u64,
     ) -> u8;
     #[rustfmt::skip]
     fn argolythe_step_back(
-        pad: *mut u8, pad_len: usize, vdp: *mut u8, vdp_len: usize,
-        reg: *mut u8, reg_len: usize, journal: *mut u32, journal_len: usize,
-        pc: u16, used: usize, out: *mut u64,
+        image: *mut u8, image_len: usize, pad: *mut u8, pad_len: usize,
+        vdp: *mut u8, vdp_len: usize, reg: *mut u8, reg_len: usize,
+        journal: *mut u32, journal_len: usize, pc: u16, used: usize, writable: u8, out: *mut u64,
     ) -> u8;
 }
 
 struct Machine {
+    image: Vec<u8>,
     pad: [u8; 256],
     vdp: Vec<u8>,
     reg: [u8; 8],
     journal: Vec<u32>,
     pc: u16,
     used: usize,
+    writable: u8, // bit g for group g
 }
 
 impl Machine {
@@ -30,15 +32,16 @@ impl Machine {
         self.used = out[1] as usize;
     }
 
-    fn step(&mut self, image: &[u8]) -> u8 {
+    fn step(&mut self) -> u8 {
         let mut out = [0; 5];
         // Each pointer goes with its own length, and distinct fields do not overlap.
         #[rustfmt::skip]
         let answer = unsafe {
             argolythe_step(
-                image.as_ptr(), image.len(), self.pad.as_mut_ptr(), self.pad.len(),
+                self.image.as_mut_ptr(), self.image.len(), self.pad.as_mut_ptr(), self.pad.len(),
                 self.vdp.as_mut_ptr(), self.vdp.len(), self.reg.as_mut_ptr(), self.reg.len(),
-                self.journal.as_mut_ptr(), self.journal.len(), self.pc, self.used, out.as_mut_ptr(),
+                self.journal.as_mut_ptr(), self.journal.len(), self.pc, self.used, self.writable,
+                out.as_mut_ptr(),
             )
         };
         self.keep(out);
@@ -51,9 +54,10 @@ impl Machine {
         #[rustfmt::skip]
         let answer = unsafe {
             argolythe_step_back(
-                self.pad.as_mut_ptr(), self.pad.len(), self.vdp.as_mut_ptr(), self.vdp.len(),
-                self.reg.as_mut_ptr(), self.reg.len(), self.journal.as_mut_ptr(), self.journal.len(),
-                self.pc, self.used, out.as_mut_ptr(),
+                self.image.as_mut_ptr(), self.image.len(), self.pad.as_mut_ptr(), self.pad.len(),
+                self.vdp.as_mut_ptr(), self.vdp.len(), self.reg.as_mut_ptr(), self.reg.len(),
+                self.journal.as_mut_ptr(), self.journal.len(), self.pc, self.used, self.writable,
+                out.as_mut_ptr(),
             )
         };
         self.keep(out);
@@ -62,20 +66,29 @@ impl Machine {
 }
 
 fn main() {
-    let mut image = vec![0; 8192];
-    image[..3].copy_from_slice(&[0xBE, 0x10, 0x2A]); // ST >2A to pad >10
     let mut m = Machine {
+        image: vec![0; 8192],
         pad: [0; 256],
         vdp: vec![0; 16384],
         reg: [0; 8],
         journal: vec![0; 64],
         pc: 0,
         used: 0,
+        writable: 1,
     };
-    let forth = m.step(&image);
+    m.image[..3].copy_from_slice(&[0xBE, 0x10, 0x2A]); // ST >2A to pad >10
+    m.image[3..9].copy_from_slice(&[0x25, 0, 1, 0, 0x80, 0x10]); // MOVE 1 byte from pad >10 to GROM >0080
+    m.pad[0x73] = 0x7E; // the empty subroutine stack, where a MOVE keeps pc
+    let forth = m.step();
     println!("From Rust, a step answers {forth}: pc is {:04X}, pad >10 holds {:02X}.", m.pc, m.pad[0x10]);
     assert!(forth == 0 && m.pc == 3 && m.pad[0x10] == 0x2A && m.used == 2);
+    let moved = m.step();
+    println!("The next answers {moved}: pc is {:04X}, GROM >0080 holds {:02X}.", m.pc, m.image[0x80]);
+    assert!(moved == 0 && m.pc == 9 && m.image[0x80] == 0x2A && m.used == 8);
+    let unmoved = m.step_back();
+    println!("A step back answers {unmoved}: pc is {:04X}, GROM >0080 holds {:02X}.", m.pc, m.image[0x80]);
+    assert!(unmoved == 0 && m.pc == 3 && m.image[0x80] == 0 && m.used == 2);
     let back = m.step_back();
-    println!("A step back answers {back}: pc is {:04X}, pad >10 holds {:02X}.", m.pc, m.pad[0x10]);
+    println!("One more answers {back}: pc is {:04X}, pad >10 holds {:02X}.", m.pc, m.pad[0x10]);
     assert!(back == 0 && m.pc == 0 && m.pad[0x10] == 0 && m.used == 0);
 }

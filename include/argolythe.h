@@ -8,7 +8,8 @@
  *
  * - Each pointer is valid for as many elements as its length says, which are initialised, and is
  *   aligned for its type. That holds for the call alone: nothing is kept when it returns.
- * - A pointer to const is only read. Any other is read and written.
+ * - A pointer to const is only read. Any other is read and written, the image too: of that only
+ *   the groups named writable, but it is lent for writing also where none is.
  * - No two things lent to one call overlap, `out` and `offset` among them, except that two const
  *   ones may. No other thread writes what is lent const, or touches what is not, until the call
  *   returns.
@@ -65,7 +66,8 @@ enum argolythe_answer {
     ARGOLYTHE_WRONG_LENGTH = 11,   /* a lent part has a wrong length, or used exceeds the journal */
     ARGOLYTHE_NO_RECORD = 12,      /* step_back finds no sound record */
     ARGOLYTHE_OFF_REGISTERS = 13,  /* VDP register above 7 */
-    ARGOLYTHE_TOO_COARSE = 23      /* COINC's granularity above 7 */
+    ARGOLYTHE_TOO_COARSE = 23,     /* COINC's granularity above 7 */
+    ARGOLYTHE_READ_ONLY = 24       /* a MOVE into a GROM group that is not writable */
 };
 
 /* ---- what comes out: five numbers, whatever the answer */
@@ -87,36 +89,40 @@ enum argolythe_out {
  *
  * image, pad, vdp, reg and journal are each a pointer and a length in elements. pc is the GROM
  * address of the next instruction. used says how many words of the journal are in use, from its
- * start: 0 for an empty one, and then what the last call left in out. The host may write pad, vdp
- * and reg between calls; a step back then puts back the bytes that its step had found.
- * A call that answers 11 or 12 touches only out. A refused step puts all back, and zeroes the
+ * start: 0 for an empty one, and then what the last call left in out. writable names the groups of
+ * the image that a program may write, bit g for the group at g times >2000: 0 for cartridges that
+ * cannot be written. A group that the image does not have may be named. Calls on one journal want
+ * the same groups, since a step back puts nothing back in others and answers 12. The host may write
+ * pad, vdp, reg and the image between calls; a step back then puts back the bytes that its step had
+ * found. A call that answers 11 or 12 touches only out. A refused step puts all back, and zeroes the
  * journal words that it had begun to use. */
 
 /* One step. */
-uint8_t argolythe_step(const uint8_t *image, size_t image_len,
+uint8_t argolythe_step(uint8_t *image, size_t image_len,
                        uint8_t *pad, size_t pad_len,
                        uint8_t *vdp, size_t vdp_len,
                        uint8_t *reg, size_t reg_len,
                        uint32_t *journal, size_t journal_len,
-                       uint16_t pc, size_t used,
+                       uint16_t pc, size_t used, uint8_t writable,
                        uint64_t out[ARGOLYTHE_OUTS]);
 
 /* Up to n steps, to the first answer other than 0. The numbers are those of the steps done before
  * it. With n = 0 it answers 0 or 11. */
-uint8_t argolythe_run(const uint8_t *image, size_t image_len,
+uint8_t argolythe_run(uint8_t *image, size_t image_len,
                       uint8_t *pad, size_t pad_len,
                       uint8_t *vdp, size_t vdp_len,
                       uint8_t *reg, size_t reg_len,
                       uint32_t *journal, size_t journal_len,
-                      uint16_t pc, size_t used, uint32_t n,
+                      uint16_t pc, size_t used, uint8_t writable, uint32_t n,
                       uint64_t out[ARGOLYTHE_OUTS]);
 
 /* The newest step in the journal, taken back: 0, 11 or 12. */
-uint8_t argolythe_step_back(uint8_t *pad, size_t pad_len,
+uint8_t argolythe_step_back(uint8_t *image, size_t image_len,
+                            uint8_t *pad, size_t pad_len,
                             uint8_t *vdp, size_t vdp_len,
                             uint8_t *reg, size_t reg_len,
                             uint32_t *journal, size_t journal_len,
-                            uint16_t pc, size_t used,
+                            uint16_t pc, size_t used, uint8_t writable,
                             uint64_t out[ARGOLYTHE_OUTS]);
 
 enum argolythe_memory { ARGOLYTHE_SEE_CPU = 0, ARGOLYTHE_SEE_VDP = 1 };
