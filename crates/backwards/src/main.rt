@@ -77,6 +77,7 @@ fn show_place<'a>(pad: &'a [u8; 256], vram: &'a [u8; 16384], pc: u16) {
 
 // Back as many steps as were made, and once more: 12, since no step is left.
 fn walk_back(
+    image: &mut [u8; 8192],
     pad: &mut [u8; 256],
     vram: &mut [u8; 16384],
     regs: &mut [u8; 8],
@@ -87,23 +88,27 @@ fn walk_back(
     let mut at = from;
     let mut left = steps;
     while left > 0 {
-        let r = bench::walk::step_back(pad, vram, regs, journal, at);
+        let r = bench::walk::step_back(image, pad, vram, regs, journal, at);
         at = r.at;
         show_place(pad, vram, at.pc);
         left -= 1;
     }
-    let last = bench::walk::step_back(pad, vram, regs, journal, at);
+    let last = bench::walk::step_back(image, pad, vram, regs, journal, at);
     show_answer(last.answer, 0, last.stores, last.address);
 }
 
 // A run from 0 to the instruction that fails, and the walk back.
-fn walk(image: &[u8; 8192]) {
+fn walk(image: &mut [u8; 8192]) {
     let mut pad = [0u8; 256];
     let mut vram = [0u8; 16384];
     let mut regs = [0u8; 8];
     let mut journal = [0u32; 64];
     pad[0x73] = 0x7E;
-    let start = At { pc: 0, used: 0 };
+    let start = At {
+        pc: 0,
+        used: 0,
+        writable: 0,
+    };
     let r = bench::runs::run(
         image,
         &mut pad,
@@ -116,16 +121,24 @@ fn walk(image: &[u8; 8192]) {
     let at = r.at;
     show_answer(r.answer, r.steps, r.stores, r.address);
     show_place(&pad, &vram, at.pc);
-    walk_back(&mut pad, &mut vram, &mut regs, &mut journal, at, r.steps);
+    walk_back(
+        image,
+        &mut pad,
+        &mut vram,
+        &mut regs,
+        &mut journal,
+        at,
+        r.steps,
+    );
 }
 
 fn main() {
     let mut image = [0u8; 8192];
     bytes::copy(&CODE, &mut image);
-    walk(&image);
+    walk(&mut image);
     bytes::copy(&SCREEN, &mut image);
     image[0x20] = 0x58;
     image[0x21] = 0x59;
     image[0x22] = 0x5A;
-    walk(&image);
+    walk(&mut image);
 }

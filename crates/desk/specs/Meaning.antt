@@ -6,9 +6,9 @@ use Prim.Native.Nat.{ℕ, suc, _+_, _-_, _≤_, _<_}
 use lib.ListN.{length, take, drop}
 use denote.Ref.{now}
 use Rattle.bytes.specs.Bytes.{indexOf}
-use Rattle.machine.specs.Meaning.{Lent, Parts, Rest, unseenAll}
-use Rattle.rules.specs.Machine.{State}
-use Rattle.bench.specs.Meaning.{lentTo, leftBy}
+use Rattle.machine.specs.Meaning.{Lent, Parts, Rest, memAfter, unseenAll}
+use Rattle.rules.specs.Machine.{Mem, State}
+use Rattle.bench.specs.Meaning.{stateAt, lentTo}
 use Rattle.bench.specs.declared.at.At.{At}
 use Rattle.bench.specs.declared.runs.Report.{Report}
 use Rattle.lines.specs.Lines as lines
@@ -20,9 +20,15 @@ use Rattle.desk.specs.declared.obey.Stand.{Stand}
 use Rattle.desk.specs.declared.turns.Place.{Place}
 use Rattle.desk.specs.declared.turns.Turn.{Turn}
 
--- "all not set is 0": pc, and the words of the journal that are used
+-- "all not set is 0": pc, the words of the journal that are used, and the writable groups
 abbrev pub outset : At
-outset = record { pc = 0; used = 0 }
+outset = record { pc = 0; used = 0; writable = 0 }
+
+-- the state that a function leaves, where q are the parts that it sees: the parts as they are, and where the machine stands beside them
+abbrev pub standing : (q : Parts) → Rest q → At → State
+standing q rest at =
+    let m : Mem = memAfter q rest (at .used) in
+    stateAt (m .image) (m .pad) (m .vram) (m .regs) (m .journal) at
 
 -- ---- a line obeyed
 
@@ -39,7 +45,7 @@ pub record Obeyed (k : ℕ) (l : lines.Line) (s s₁ : State) (buffer : List ℕ
 -- as a contract has it, of the parts that are lent, a lent buffer, and where the machine stands
 abbrev pub Obeys : ℕ → lines.Line → (Parts → Parts) → Lent → At → Stand → Type 0
 Obeys k l parts out at r =
-    (rest : Rest (parts unseenAll)) → Obeyed k l (lentTo (parts unseenAll) rest at) (leftBy (parts unseenAll) rest (r .at)) (now (out .exit)) r
+    (rest : Rest (parts unseenAll)) → Obeyed k l (lentTo (parts unseenAll) rest at) (standing (parts unseenAll) rest (r .at)) (now (out .exit)) r
 
 -- ---- what a run prints
 
@@ -137,7 +143,7 @@ abbrev pub Between : (Point → Point → Type 0) → List ℕ → Place → (Pa
 Between R text p parts q =
     Onward text p q
     × ((rest : Rest (parts unseenAll)) → R (point (p .number) (drop (p .from) text) (lentTo (parts unseenAll) rest (p .at)))
-    (point (q .number) (drop (q .from) text) (leftBy (parts unseenAll) rest (q .at))))
+    (point (q .number) (drop (q .from) text) (standing (parts unseenAll) rest (q .at))))
 
 abbrev pub Turns : Bool → Lent → Place → (Parts → Parts) → Lent → Turn → Type 0
 Turns ended text p parts out r = Between (λ x y. Turned ended x y (now (out .exit)) r) (now (text .entry)) p parts (r .place)

@@ -9,7 +9,7 @@ use lines::read::Line;
 ghost use mathlib.Core.Path.{_≡_};
 ghost use Prim.Native.Nat.{ℕ, _+_, _*_, _≤_};
 ghost use lib.ListN.{length};
-ghost use Rattle.machine.specs.Meaning.{_&_, Image, Pad, Vram, Regs, Journal};
+ghost use Rattle.machine.specs.Meaning.{_&_, Groups, Image, Pad, Vram, Regs, Journal};
 ghost use Rattle.lines.specs.Digits.{laid, bytesAt};
 ghost use Rattle.lines.specs.Lines.{runs};
 ghost use Rattle.lines.specs.Meaning.{Says};
@@ -23,11 +23,15 @@ pub struct Stand {
     pub good: bool,
 }
 
-// Where it stands before the first line: at 0, with nothing in its journal.
+// Where it stands before the first line: at 0, with nothing in its journal, and no group to be written.
 pub fn first() -> At
     ensures { λ r. ⌜ r ≡ outset ⌝ }
 {
-    At { pc: 0, used: 0 }
+    At {
+        pc: 0,
+        used: 0,
+        writable: 0,
+    }
 }
 
 // After a line that prints nothing.
@@ -51,7 +55,7 @@ fn lay(text: &[u8], b: Bytes, part: &mut [u8])
 
 // A run, and what it prints.
 fn run_shown(
-    image: &[u8; 32768],
+    image: &mut [u8; 32768],
     pad: &mut [u8; 256],
     vram: &mut [u8; 16384],
     regs: &mut [u8; 8],
@@ -60,7 +64,7 @@ fn run_shown(
     n: u32,
     out: &mut [u8; 216507],
 ) -> Stand
-    ensures { λ r. ⌜ ((k : ℕ) → Obeys k (runs n) (Image image & Pad pad & Vram vram & Regs regs & Journal journal) out at r) ⌝ }
+    ensures { λ r. ⌜ ((k : ℕ) → Obeys k (runs n) (Image image & Groups (at .writable) & Pad pad & Vram vram & Regs regs & Journal journal) out at r) ⌝ }
 {
     let pad0 = *pad;
     let vram0 = *vram;
@@ -97,7 +101,8 @@ pub fn obey(
     at: At,
     out: &mut [u8; 216507],
 ) -> Stand
-    ensures { λ r. ⌜ Obeys number (heard (now (text .entry))) (Image image & Pad pad & Vram vram & Regs regs & Journal journal) out at r ⌝ }
+    ensures { λ r. ⌜ Obeys number (heard (now (text .entry)))
+        (Image image & Groups (at .writable) & Pad pad & Vram vram & Regs regs & Journal journal) out at r ⌝ }
 {
     let line = line_of(text);
     match line {

@@ -4,7 +4,7 @@ use crate::input::Found;
 use crate::obey;
 use bench::at::At;
 ghost use mathlib.Core.Path.{_≡_};
-ghost use Rattle.machine.specs.Meaning.{_&_, Image, Pad, Vram, Regs, Journal};
+ghost use Rattle.machine.specs.Meaning.{_&_, Groups, Image, Pad, Vram, Regs, Journal};
 ghost use Rattle.desk.specs.Meaning.{foremost, Numbered, Turns};
 
 // A place in a text: where the next line begins, the number of the line before it, and where the machine stands.
@@ -44,7 +44,7 @@ pub fn next_text(
     out: &mut [u8; 216507],
 ) -> Turn
     requires { ⌜ Numbered (now text) from ⌝ }
-    ensures { λ r. ⌜ Turns ended text from (Image image & Pad pad & Vram vram & Regs regs & Journal journal) out r ⌝ }
+    ensures { λ r. ⌜ Turns ended text from (Image image & Groups (from .at .writable) & Pad pad & Vram vram & Regs regs & Journal journal) out r ⌝ }
 {
     let mut place = from;
     loop {

@@ -6,7 +6,7 @@ use crate::turns::Place;
 use crate::turns::Turn;
 ghost use mathlib.Core.Path.{_≡_};
 ghost use lib.ListN.{length};
-ghost use Rattle.machine.specs.Meaning.{_&_, Image, Pad, Vram, Regs, Journal};
+ghost use Rattle.machine.specs.Meaning.{_&_, Groups, Image, Pad, Vram, Regs, Journal};
 ghost use Rattle.bench.specs.Meaning.{stateAt};
 ghost use Rattle.desk.specs.Desk.{start};
 ghost use Rattle.desk.specs.Meaning.{Numbered, outset, Speaks};
@@ -24,7 +24,7 @@ fn obey_text(
     out: &mut [u8; 216507],
 ) -> Turn
     requires { ⌜ Numbered (now text) from ⌝ }
-    ensures { λ r. ⌜ Speaks ended text from (Image image & Pad pad & Vram vram & Regs regs & Journal journal) r ⌝ }
+    ensures { λ r. ⌜ Speaks ended text from (Image image & Groups (from .at .writable) & Pad pad & Vram vram & Regs regs & Journal journal) r ⌝ }
 {
     let mut place = from;
     loop {

@@ -120,6 +120,8 @@ fn as_said(
 
 // Whether every cell is as it is wanted.
 fn all_same(
+    image: &[u8; 32768],
+    want_image: &[u8; 32768],
     pad: &[u8; 256],
     want_pad: &[u8; 256],
     vram: &[u8; 16384],
@@ -127,7 +129,9 @@ fn all_same(
     regs: &[u8; 8],
     want_regs: &[u8; 8],
 ) -> bool {
-    fields::same(pad, want_pad) && fields::same(vram, want_vram) && fields::same(regs, want_regs)
+    let groms = fields::same(image, want_image);
+    let pads = fields::same(pad, want_pad);
+    groms && pads && fields::same(vram, want_vram) && fields::same(regs, want_regs)
 }
 
 // The run of a case, and whether it leaves what the fields after it say, in every cell.
@@ -141,6 +145,7 @@ fn run_holds(
     journal: &mut [u32; 16384],
     start: Course,
 ) -> bool {
+    let mut want_image = *image;
     let mut want_pad = *pad;
     let mut want_vram = *vram;
     let mut want_regs = *regs;
@@ -149,14 +154,23 @@ fn run_holds(
         case,
         start.from,
         text,
-        image,
+        &mut want_image,
         &mut want_pad,
         &mut want_vram,
         &mut want_regs,
         journal,
         r,
     );
-    let kept = all_same(pad, &want_pad, vram, &want_vram, regs, &want_regs);
+    let kept = all_same(
+        image,
+        &want_image,
+        pad,
+        &want_pad,
+        vram,
+        &want_vram,
+        regs,
+        &want_regs,
+    );
     said && kept
 }
 

@@ -4,10 +4,10 @@ use Rattle.backwards.proofs.walk_back.Statement.{statement}
 use Rattle.backwards.proofs.walk_back.Tie as tie
 
 abbrev Inv-loop : tie.InvT-loop
-Inv-loop pad₀ vram₀ regs₀ journal₀ steps at₀ left₀ pad vram regs journal at left = Unit {0}
+Inv-loop image₀ pad₀ vram₀ regs₀ journal₀ steps at₀ left₀ image pad vram regs journal at left = Unit {0}
 
 abbrev μ-loop : tie.MeasureT-loop
-μ-loop pad₀ vram₀ regs₀ journal₀ steps at₀ left₀ pad vram regs journal at left = left
+μ-loop image₀ pad₀ vram₀ regs₀ journal₀ steps at₀ left₀ image pad vram regs journal at left = left
 
 returns : tie.Need-returns Inv-loop μ-loop
 returns c = search needs

@@ -5,7 +5,7 @@ use mathlib.Core.List.{[]}
 use Prim.Native.Nat.{_-_}
 use native.Mathlib.Omega.{arith}
 use lib.ListN.{length}
-use Rattle.machine.specs.Meaning.{_&_, imageFrom, padFrom, vramFrom, regsFrom, journalFrom}
+use Rattle.machine.specs.Meaning.{_&_, Groups, imageFrom, padFrom, vramFrom, regsFrom, journalFrom}
 use Rattle.desk.specs.Meaning.{Tells, Between}
 use Rattle.desk.proofs.Telling.{found-line, tells-none, tells-then, tells-quiet, quiet-good, tells-line, turned-none, turned-some, here, line-on}
 use borrow.Author.Needs.{needs}
@@ -15,7 +15,7 @@ use Rattle.desk.proofs.turns.next_text.Tie as tie
 abbrev Inv-loop : tie.InvT-loop
 Inv-loop text ended image₀ pad₀ vram₀ regs₀ journal₀ out₀ place₀ image pad vram regs journal out place =
     Between (λ x y. Tells ended x [] true y) text place₀
-    (imageFrom image₀ image & padFrom pad₀ pad & vramFrom vram₀ vram & regsFrom regs₀ regs & journalFrom journal₀ journal) place
+    (imageFrom image₀ image & Groups (place₀ .at .writable) & padFrom pad₀ pad & vramFrom vram₀ vram & regsFrom regs₀ regs & journalFrom journal₀ journal) place
 
 abbrev μ-loop : tie.MeasureT-loop
 μ-loop text ended image₀ pad₀ vram₀ regs₀ journal₀ out₀ place₀ image pad vram regs journal out place = length text - place .from

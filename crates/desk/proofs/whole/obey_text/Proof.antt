@@ -4,7 +4,7 @@ use mathlib.Core.Bool.{true}
 use native.Mathlib.Omega.{arith}
 use lib.ListN.{length}
 use borrow.Author.Tests.{not-true, not-false}
-use Rattle.machine.specs.Meaning.{_&_, imageFrom, padFrom, vramFrom, regsFrom, journalFrom}
+use Rattle.machine.specs.Meaning.{_&_, Groups, imageFrom, padFrom, vramFrom, regsFrom, journalFrom}
 use Rattle.desk.specs.Meaning.{Said, Between}
 use Rattle.desk.proofs.Telling.{said-none, spoken-all, spoken-bad, said-good, here, further}
 use Rattle.desk.proofs.whole.obey_text.Statement.{statement}
@@ -13,7 +13,7 @@ use Rattle.desk.proofs.whole.obey_text.Tie as tie
 abbrev Inv-loop : tie.InvT-loop
 Inv-loop text ended image₀ pad₀ vram₀ regs₀ journal₀ out₀ place₀ image pad vram regs journal out place =
     Between (λ x y. Said ended x true y) text place₀
-    (imageFrom image₀ image & padFrom pad₀ pad & vramFrom vram₀ vram & regsFrom regs₀ regs & journalFrom journal₀ journal) place
+    (imageFrom image₀ image & Groups (place₀ .at .writable) & padFrom pad₀ pad & vramFrom vram₀ vram & regsFrom regs₀ regs & journalFrom journal₀ journal) place
 
 abbrev μ-loop : tie.MeasureT-loop
 μ-loop text ended image₀ pad₀ vram₀ regs₀ journal₀ out₀ place₀ image pad vram regs journal out place = length text - place .from
