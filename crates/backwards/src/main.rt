@@ -133,12 +133,13 @@ fn walk(image: &mut [u8; 8192]) {
 }
 
 fn main() {
-    let mut image = [0u8; 8192];
-    bytes::copy(&CODE, &mut image);
-    walk(&mut image);
-    bytes::copy(&SCREEN, &mut image);
-    image[0x20] = 0x58;
-    image[0x21] = 0x59;
-    image[0x22] = 0x5A;
-    walk(&mut image);
+    let mut code = [0u8; 8192];
+    let mut screen = [0u8; 8192];
+    bytes::copy(&CODE, &mut code);
+    walk(&mut code);
+    bytes::copy(&SCREEN, &mut screen);
+    screen[0x20] = 0x58;
+    screen[0x21] = 0x59;
+    screen[0x22] = 0x5A;
+    walk(&mut screen);
 }
