@@ -16,7 +16,8 @@ returns c =
     let at-slice-known = at-slice-known2 .before in
     let start = at-slice-known .before in
     λ _. any-groups (at-take-back .take-back .ensures _ _ (ran _
-    (good-of {at = start .args .at} (omega (arith, start .good .1 .1 .1 .1 .1 .0)) (omega (arith, start .good .1 .1 .1 .1 .1 .0)) (at-slice-known .slice-known .given) (at-slice-known2 .slice-known2 .given)
+    (good-of {at = start .args .at} (omega (arith, start .good .1 .1 .1 .1 .1 .0)) (omega (arith, start .good .1 .1 .1 .1 .1 .0))
+    (at-slice-known .slice-known .given) (at-slice-known2 .slice-known2 .given)
     (at-slice-known3 .slice-known3 .given) (at-slice-known4 .slice-known4 .given)) (at-run .run .ensures _)))
 
 pub run-and-back-spec : {M : Type 1} → statement M

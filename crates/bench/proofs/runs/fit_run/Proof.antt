@@ -22,7 +22,8 @@ abbrev μ-loop : tie.MeasureT-loop
 loop-holds : tie.Need-loop-holds Inv-loop μ-loop
 loop-holds c =
     let start = c .before .before .before .before .before in (
-      sets-out (start .pre) (search needs) (search needs) (c .before .before .before .before .slice-known .given) (c .before .before .before .slice-known2 .given) (c .before .before .slice-known3 .given) (c .before .slice-known4 .given),
+      sets-out (start .pre) (search needs) (search needs) (c .before .before .before .before .slice-known .given)
+          (c .before .before .before .slice-known2 .given) (c .before .before .slice-known3 .given) (c .before .slice-known4 .given),
       refl,
       refl,
       refl,

@@ -30,7 +30,8 @@ unfolding deliver
 returns-4 c =
     let at-poke-grom = c .before .before .before .before in
     let at-to4 = at-poke-grom .before .before .before .before .before in
-    λ _. rw (at-to4 .to4 .given .1) (via (λ a. poke grom a (at-to4 .before .before .before .before .before .before .before .args .b)) (at-poke-grom .before .plus .ensures) (at-poke-grom .poke-grom .ensures _))
+    λ _. rw (at-to4 .to4 .given .1) (via (λ a. poke grom a (at-to4 .before .before .before .before .before .before .before .args .b))
+    (at-poke-grom .before .plus .ensures) (at-poke-grom .poke-grom .ensures _))
 
 pub deliver-spec : {M : Type 1} → statement M
 deliver-spec =

@@ -11,7 +11,8 @@ returns c = λ x. still (c .if1 .taken)
 returns-2 : tie.Need-returns-2
 returns-2 c =
     let start = c .before .before .before .before .before .before .before in
-    λ x. rw (c .refused .ensures) (peek-far (start .args .k) _ x (c .before .before .before .before .if1 .left) (c .before .before .before .reach .ensures) (c .before .before .if2 .taken) (c .before .outside .ensures))
+    λ x. rw (c .refused .ensures) (peek-far (start .args .k) _ x (c .before .before .before .before .if1 .left)
+    (c .before .before .before .reach .ensures) (c .before .before .if2 .taken) (c .before .outside .ensures))
 
 shared-slice-read-read : tie.Need-shared-slice-read-read
 shared-slice-read-read c =
