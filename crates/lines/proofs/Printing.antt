@@ -59,7 +59,7 @@ pub record Owes (was : List ℕ) (at : ℕ) (text rest is : List ℕ) (past : �
   pub over : laid was at text ≡ laid is past rest
   pub ends : at + length text ≡ past + length rest
 
-less : {n at past end : ℕ} {was text a rest is next : List ℕ}
+pub less : {n at past end : ℕ} {was text a rest is next : List ℕ}
     → Owes was at text (a ++ rest) is past → Puts n is past a next end → Owes was at text rest next end
 less {past = past} {a = a} {rest = rest} {is = is} o f =
     record { over = o .over ∙ rw (laid-append is past a rest, ← f .over, ← f .ends); ends = omega (arith, o .ends, length-append a rest, f .ends) }

@@ -26,7 +26,7 @@ pub fn put_word(out: &mut [u8], at: usize, word: &[u8]) -> usize
 }
 
 // The last `width` digits of a number, from the last one on.
-fn put_digits(out: &mut [u8], at: usize, base: u64, width: usize, n: u64) -> usize
+pub fn put_digits(out: &mut [u8], at: usize, base: u64, width: usize, n: u64) -> usize
     requires { ⌜ (1 ≤ base) × (base ≤ 16) × (at + width ≤ length (now out)) ⌝ }
     ensures { λ r. ⌜ Prints width (digitsOf base width n) out at r ⌝ }
 {
@@ -55,7 +55,7 @@ fn width_of(n: u64) -> usize
     k
 }
 
-fn put_decimal(out: &mut [u8], at: usize, n: u64) -> usize
+pub fn put_decimal(out: &mut [u8], at: usize, n: u64) -> usize
     requires { ⌜ at + 20 ≤ length (now out) ⌝ }
     ensures { λ r. ⌜ Prints 20 (showDecimal n) out at r ⌝ }
 {

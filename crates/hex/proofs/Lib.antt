@@ -1,0 +1,11 @@
+pub mod Back
+pub mod Cutting
+pub mod Forming
+pub mod Judging
+pub mod Marking
+pub mod Named
+pub mod Order
+pub mod Promises
+pub mod Samples
+pub mod Saying
+pub mod Writing

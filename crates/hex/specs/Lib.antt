@@ -1,0 +1,4 @@
+pub mod Dump
+pub mod Lines
+pub mod Meaning
+pub mod Records
