@@ -1,7 +1,8 @@
 /* Runs four instructions to their end, looks at what they left, and walks back to the start; then a card
- * that writes itself. */
+ * that writes itself, and the image written as a dump. */
 #include "argolythe.h"
 #include <stdio.h>
+#include <string.h>
 
 /* One machine. All of it is the host's own memory, lent to each call. */
 static uint8_t image[ARGOLYTHE_GROUP] = {
@@ -160,6 +161,27 @@ static void a_card_that_writes_itself(void)
            "the DEC is back");
 }
 
+/* The image as a dump, read back; and a dump whose third line names an address twice. */
+static void dump_and_back(void)
+{
+    static const char twice[] = ":0100050000FA\n:0100060001F8\n:0100050000FA\n:00000001FF\n";
+    static uint8_t text[ARGOLYTHE_HEX(ARGOLYTHE_GROUP)];
+    static uint8_t again[ARGOLYTHE_GROUP];
+    size_t count, line;
+    uint8_t answer = argolythe_write_hex(image, sizeof image, text, sizeof text, &count);
+    printf("The image as a dump has %d bytes, and begins with %.43s.\n", (int)count, (const char *)text);
+    expect(answer == ARGOLYTHE_DONE && count == sizeof text, "44 bytes for 16, and 12");
+    answer = argolythe_read_hex(text, count, again, sizeof again, &line);
+    expect(answer == ARGOLYTHE_DONE && line == 0 && memcmp(again, image, sizeof image) == 0,
+           "read back, the image is the same");
+    answer = argolythe_read_hex((const uint8_t *)twice, sizeof twice - 1, again, sizeof again, &line);
+    printf("Another dump answers %d (21: an address is named twice) in line %d.\n", answer, (int)line);
+    expect(answer == ARGOLYTHE_NAMED_TWICE && line == 3, "the line at fault");
+    expect(again[6] == 0, "the image is all 0");
+    answer = argolythe_write_hex(image, sizeof image, text, sizeof text - 1, &count);
+    expect(answer == ARGOLYTHE_OUT_SHORT && count == 0, "no room for the last line feed");
+}
+
 int main(void)
 {
     to_the_end();
@@ -168,6 +190,7 @@ int main(void)
     beyond_the_image();
     back_to_the_start();
     a_card_that_writes_itself();
+    dump_and_back();
     printf(wrong ? "Something was not as expected.\n" : "All as expected.\n");
     return wrong ? 1 : 0;
 }

@@ -1,4 +1,4 @@
-/* Argolythe for C11 and C++: steps, runs, steps back and the viewer.
+/* Argolythe for C11 and C++: steps, runs, steps back, the viewer, and dumps.
  *
  * Link `libexport.a`, which `rt staticlib export` writes to target/staticlib/, for x86-64 Linux.
  *
@@ -10,7 +10,7 @@
  *   aligned for its type. That holds for the call alone: nothing is kept when it returns.
  * - A pointer to const is only read. Any other is read and written, the image too: of that only
  *   the groups named writable, but it is lent for writing also where none is.
- * - No two things lent to one call overlap, `out` and `offset` among them, except that two const
+ * - No two things lent to one call overlap, `out`, `offset`, `line` and `count` among them, except that two const
  *   ones may. No other thread writes what is lent const, or touches what is not, until the call
  *   returns.
  * - No pointer is NULL, also where its length is 0: a journal of 0 words is any aligned pointer
@@ -66,8 +66,12 @@ enum argolythe_answer {
     ARGOLYTHE_WRONG_LENGTH = 11,   /* a lent part has a wrong length, or used exceeds the journal */
     ARGOLYTHE_NO_RECORD = 12,      /* step_back finds no sound record */
     ARGOLYTHE_OFF_REGISTERS = 13,  /* VDP register above 7 */
+    ARGOLYTHE_BAD_RECORD = 20,     /* a dump: form, sum, type, address beyond the image, or more after the end */
+    ARGOLYTHE_NAMED_TWICE = 21,    /* a dump: address named twice */
+    ARGOLYTHE_NO_END = 22,         /* a dump: no end record */
     ARGOLYTHE_TOO_COARSE = 23,     /* COINC's granularity above 7 */
-    ARGOLYTHE_READ_ONLY = 24       /* a MOVE into a GROM group that is not writable */
+    ARGOLYTHE_READ_ONLY = 24,      /* a MOVE into a GROM group that is not writable */
+    ARGOLYTHE_OUT_SHORT = 31       /* output too short */
 };
 
 /* ---- what comes out: five numbers, whatever the answer */
@@ -134,6 +138,29 @@ size_t argolythe_view(const uint8_t *pad, size_t pad_len,
                       const uint8_t *vdp, size_t vdp_len,
                       uint8_t memory, size_t at, size_t len,
                       size_t *offset);
+
+/* ---- dumps in Intel HEX (crates/export/src/dump.rt)
+ *
+ * An image is 1 to 8 groups, else the answer is 11 and only the number is touched. No text and no
+ * output has a wrong length. */
+
+/* Data and end records read into an image: 0, 11, 20, 21 or 22. Lines end with LF or CR LF, the last
+ * one may lack it, and digits are of either case. Bytes that no record names are 0. After 20, 21 and
+ * 22 the image is all 0, and *line is the line at fault, counted from 1: for 22 the line after the
+ * last one. After 0 and 11 it is 0. */
+uint8_t argolythe_read_hex(const uint8_t *text, size_t text_len,
+                           uint8_t *image, size_t image_len,
+                           size_t *line);
+
+/* Bytes of the text of an image. */
+#define ARGOLYTHE_HEX(image_len) ((image_len) / 16 * 44 + 12)
+
+/* An image written as records of 16 bytes, ascending, then the end record, in capitals, each line
+ * ended by LF: 0, 11 or 31. *count is how many bytes of out are the text; the others stay as they
+ * were, and all of them after 11 and 31, when *count is 0. */
+uint8_t argolythe_write_hex(const uint8_t *image, size_t image_len,
+                            uint8_t *out, size_t out_len,
+                            size_t *count);
 
 #ifdef __cplusplus
 }

@@ -1,2 +1,3 @@
 pub mod Demanded
+pub mod Dumped
 pub mod Hosted
