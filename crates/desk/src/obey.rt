@@ -80,7 +80,7 @@ fn run_shown(
 }
 
 // What a line says: nothing where it is too long.
-fn line_of(text: &[u8]) -> Line
+pub fn line_of(text: &[u8]) -> Line
     ensures { λ r. ⌜ Says (now (text .entry)) r (heard (now (text .entry))) ⌝ }
 {
     if LONGEST < text.len() {
