@@ -88,13 +88,13 @@ pub fn store(memory: &mut [u8], journal: &mut [u32], m: Now, k: Memory, at: usiz
     let used = m.used;
     let limit = reach(k, memory.len());
     let why = outside(k, at);
+    let allowed = may_store(k, at);
     if m.answer != 0 {
         return m;
     }
     if limit <= at {
         return state::refused(m, why);
     }
-    let allowed = may_store(k, at);
     if !allowed {
         return state::refused(m, Why::ReadOnly);
     }
