@@ -1,4 +1,4 @@
--- The list of opcodes as a value, and the test that it says of each of the 256 what the rules say.
+-- The list of opcodes as a value, the test that it is what the rules say, and what an arm of `class_of` has from both.
 use mathlib.Core.Path.{_≡_, refl, ap}
 use mathlib.Core.Logic.{⊎-elim}
 use mathlib.Core.Bool.{Bool, true, false}
@@ -15,7 +15,7 @@ use Rattle.rules.specs.Opcodes.{rtn, rtnc, rand, back, long, call, all, fmt, te
 use Rattle.rules.specs.Opcodes.{high, greater, carry, overflow, abs, neg, inv, clr, cz, inc, dec, inct, dect}
 use Rattle.rules.specs.Opcodes.{add, sub, and, or, xor, st, ch, che, cgt, cge, ceq, clog, sra, sll, srl, src}
 
--- the runs of `class_of`, each by its last opcode; bits of the opcode say that the source is immediate and that the operands are words
+-- the runs of `class_of` in its order, each by its last opcode; bits of the opcode say that the source is immediate and that the operands are words
 abbrev pub runs : Bool → Bool → ℕ → List (ℕ × Class)
 runs imm w op =
     (0x00, does rtn) ∷ (0x01, does rtnc) ∷ (0x02, does rand) ∷ (0x03, stops needsHost) ∷ (0x04, does back) ∷ (0x05, does long) ∷ (0x06, does call)
@@ -41,6 +41,7 @@ abbrev pub found : ℕ → List (ℕ × Class) → Class
 found op [] = stops noSuch
 found op (r ∷ rs) = pick (ltb (r .0) op) (found op rs) (r .1)
 
+-- where that run ends
 abbrev pub end : ℕ → List (ℕ × Class) → ℕ
 end op [] = op
 end op (r ∷ rs) = pick (ltb (r .0) op) (end op rs) (r .0)
@@ -54,7 +55,7 @@ abbrev below : (ℕ → Class) → ℕ → List Class
 below f zero = []
 below f (suc n) = f n ∷ below f n
 
--- the test
+-- the test: of all 256 opcodes the list says what the rules say
 every : below said 256 ≡ below classOf 256
 unfolding said classOf gramClass moveClass _also_ bit
 every = refl
@@ -87,7 +88,7 @@ module _ (k op : ℕ) (low : k ≤ op) where
 abbrev pub Within : ℕ → ℕ → Type 0
 Within k op = (k ≤ op) × (op ≤ end k (runs false false 0)) × (op < 256)
 
--- so it has the class of that run, with its own bits
+-- so it has the class of that run, with its own bits; where the code has these by name, they are given
 pub listed : (k op : ℕ) → Within k op → found k (runs (bit 1 op) (bit 0 op) op) ≡ classOf op
 unfolding said
 listed k op h = rw (← together k op (h .0) (runs (bit 1 op) (bit 0 op) op) (h .1)) (each said classOf 256 every op (h .2))

@@ -1,17 +1,17 @@
--- Each arm by the run of the list that begins where its own does: those of one opcode first, then the others.
+-- Each arm by the run of the list that begins where its own does: first the arms of one opcode, then those of several.
 use native.Mathlib.Omega.{arith}
 use borrow.Author.Needs.{needs}
 use Rattle.opcode.proofs.Listed.{listed, wide, both, past}
 use Rattle.opcode.proofs.class.class_of.Statement.{statement}
 use Rattle.opcode.proofs.class.class_of.Tie as tie
 
--- above the keys from >00 to >0F
+-- that an opcode is not below >10, since no arm from >00 to >0F took it
 from-10 : tie.Need-returns-19
 from-10 c =
     let skipped = c .before .before .before .before .match .rest in
     listed 0x10 _ (past _ _ 0 16 (omega arith) (skipped .0 .0), search needs, search needs)
 
--- above >EC and >ED
+-- nor here >EC or >ED
 from-EE : tie.Need-returns-61
 from-EE c =
     let skipped = c .before .before .before .before .before .before .match .rest in
