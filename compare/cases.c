@@ -19,6 +19,9 @@ enum {
 /* Room in the journal that runs out about the end of an ALL. */
 enum { ALL_ROOM_LOW = 768, ALL_ROOM_HIGH = 772 };
 
+/* A ring doesn't end a run, so its runs are no longer than this. */
+enum { RING_RUN = 3000 };
+
 /* ---- random numbers: splitmix64 ---- */
 
 struct dice {
@@ -760,14 +763,52 @@ static uint32_t some_store(struct dice *d, const struct test_case *c)
     return journal_word(kind, below(d, cells[kind]), below(d, 256));
 }
 
+/* The i-th word of the case's journal, counted from where its kept words begin. */
+static uint32_t *kept_word(const struct test_case *c, size_t i)
+{
+    return &c->journal[c->ring ? (c->place + i) % c->journal_len : i];
+}
+
 /* A record of a few stores. */
-static size_t fill_record(struct dice *d, const struct test_case *c, size_t at, size_t end)
+static size_t fill_record(struct dice *d, const struct test_case *c, size_t at)
 {
     uint32_t stores = below(d, 7);
-    c->journal[at++] = journal_word(3, 0, 0) | below(d, 65536);
-    for (; stores > 0 && at < end; stores--)
-        c->journal[at++] = some_store(d, c);
+    *kept_word(c, at++) = journal_word(3, 0, 0) | below(d, 65536);
+    for (; stores > 0 && at < c->used; stores--)
+        *kept_word(c, at++) = some_store(d, c);
     return at;
+}
+
+/* Words that no step lays: any, marks with surplus bits, kinds that name no cell, stores of no cell. */
+static uint32_t some_junk(struct dice *d)
+{
+    switch (below(d, 4)) {
+    case 0:
+        return (uint32_t)roll(d);
+    case 1:
+        return journal_word(3, below(d, 0x200000), below(d, 256));
+    case 2:
+        return journal_word(between(d, 4, 7), below(d, 0x200000), below(d, 256));
+    default:
+        return journal_word(below(d, 3), edge_word(d), below(d, 256));
+    }
+}
+
+/* What a ring is lent with: records, below them now and then words without a mark, or junk here and there or all over. */
+static void fill_ring(struct dice *d, const struct test_case *c, size_t at)
+{
+    uint32_t r = below(d, 100);
+    uint32_t junk = r < 60 ? 0 : r < 85 ? 10 : 100; /* in hundredths of the words */
+
+    if (one_in(d, 3))
+        for (uint32_t n = below(d, 8); n > 0 && at < c->used; n--)
+            *kept_word(c, at++) = some_store(d, c);
+    size_t from = at;
+    while (at < c->used)
+        at = fill_record(d, c, at);
+    for (at = from; junk > 0 && at < c->used; at++)
+        if (percent(d, junk))
+            *kept_word(c, at) = some_junk(d);
 }
 
 static size_t some_journal_len(struct dice *d)
@@ -784,41 +825,80 @@ static size_t some_journal_len(struct dice *d)
     return CASE_JOURNAL_MAX - below(d, 2);
 }
 
+/* Rings that a few steps go round, and the lengths of plain journals. */
+static size_t some_ring_len(struct dice *d)
+{
+    uint32_t r = below(d, 100);
+    if (r < 12)
+        return below(d, 4);
+    if (r < 45)
+        return between(d, 4, 12);
+    return r < 75 ? between(d, 13, 100) : some_journal_len(d);
+}
+
+/* A place in a ring: its start, its end, or anywhere. */
+static size_t some_place(struct dice *d, size_t len)
+{
+    if (len == 0 || one_in(d, 4))
+        return 0;
+    return one_in(d, 4) ? len - 1 : below(d, (uint32_t)len);
+}
+
+/* A place that a plain journal doesn't look at. */
+static size_t any_place(struct dice *d)
+{
+    return one_in(d, 2) ? 0 : one_in(d, 2) ? (size_t)roll(d) : below(d, 4000);
+}
+
+/* How many words a journal has left; a ring is full, or nearly, in half of the cases. */
+static size_t some_room(struct dice *d, size_t len, bool ring)
+{
+    uint32_t r = below(d, 100);
+
+    if (ring && r < 50)
+        return below(d, 4);
+    if (r < 55)
+        return len;
+    if (r < 80)
+        return below(d, 16);
+    if (r < 85)
+        return below(d, 900);
+    if (r < 87)
+        return between(d, ALL_ROOM_LOW, ALL_ROOM_HIGH);
+    return below(d, (uint32_t)len + 1);
+}
+
+/* The words not in use are 0, or hold anything. */
+static void fill_rest(struct dice *d, const struct test_case *c, size_t at)
+{
+    bool zero = one_in(d, 2);
+    uint64_t garbage = roll(d) | 1;
+
+    for (; at < c->journal_len; at++) {
+        garbage = garbage * 6364136223846793005u + 1442695040888963407u;
+        *kept_word(c, at) = zero ? 0 : (uint32_t)(garbage >> 32);
+    }
+}
+
 static void fill_journal(struct dice *d, struct test_case *c)
 {
-    uint32_t *journal = c->journal;
-    size_t len = c->journal_len = some_journal_len(d);
-    uint32_t r = below(d, 100);
-    size_t room;
+    static const uint8_t rings[] = {1, 1, 1, 2, 0x80, 0xFF};
 
-    if (r < 55)
-        room = len;
-    else if (r < 80)
-        room = below(d, 16);
-    else if (r < 85)
-        room = below(d, 900);
-    else if (r < 87)
-        room = between(d, ALL_ROOM_LOW, ALL_ROOM_HIGH);
-    else
-        room = below(d, (uint32_t)len + 1);
-    c->used = room > len ? 0 : len - room;
+    c->ring = one_in(d, 2) ? 0 : PICK(d, rings);
+    c->journal_len = c->ring ? some_ring_len(d) : some_journal_len(d);
+    c->place = c->ring ? some_place(d, c->journal_len) : any_place(d);
+    size_t room = some_room(d, c->journal_len, c->ring != 0);
+    c->used = room > c->journal_len ? 0 : c->journal_len - room;
 
     size_t at = 0;
-    if (c->used > 4000) { /* most of a long journal is plain */
-        at = c->used - 4000;
-        memset(journal, 0, at * sizeof *journal);
-    }
-    while (at < c->used)
-        at = fill_record(d, c, at, c->used);
-    if (one_in(d, 2)) {
-        memset(journal + at, 0, (len - at) * sizeof *journal);
-    } else {
-        uint64_t garbage = roll(d) | 1;
-        for (; at < len; at++) {
-            garbage = garbage * 6364136223846793005u + 1442695040888963407u;
-            journal[at] = (uint32_t)(garbage >> 32);
-        }
-    }
+    for (; c->used > 4000 && at < c->used - 4000; at++) /* most of a long journal is plain */
+        *kept_word(c, at) = 0;
+    if (c->ring)
+        fill_ring(d, c, at);
+    else
+        while (at < c->used)
+            at = fill_record(d, c, at);
+    fill_rest(d, c, c->used);
 }
 
 /* ---- calls ---- */
@@ -852,14 +932,14 @@ static void some_view(struct dice *d, struct call *call)
     }
 }
 
-/* Answer 11, by one part or the used count. */
+/* Answer 11, by one part, the used count or the place. */
 static void spoil_length(struct dice *d, struct call *call)
 {
     static const size_t images[] = {0, 1, 255, 4096, 8191, 8193, 12288, 65535, CASE_IMAGE_ROOM};
     static const size_t pads[] = {0, 255, 257, 224};
     static const size_t vdps[] = {0, 16383, 16385, 8192};
     static const size_t regs[] = {0, 7, 9};
-    switch (below(d, 6)) {
+    switch (below(d, call->ring ? 9 : 7)) {
     case 0:
         call->image_len = PICK(d, images);
         break;
@@ -875,8 +955,12 @@ static void spoil_length(struct dice *d, struct call *call)
     case 4:
         call->journal_len = CASE_JOURNAL_MAX + 1;
         break;
-    default:
+    case 5:
         call->used_beyond = one_in(d, 4) ? SIZE_MAX - call->journal_len : 1 + below(d, 3);
+        break;
+    default: /* exactly at the length, a little past it, or far */
+        call->place_past = true;
+        call->place_by = one_in(d, 4) ? SIZE_MAX - call->journal_len - below(d, 3) : below(d, 4);
         break;
     }
 }
@@ -915,6 +999,18 @@ static void some_other_groups(struct dice *d, struct call *call)
         call->image_len = CASE_GROUP_LEN * between(d, 1, (uint32_t)(call->image_len / CASE_GROUP_LEN));
 }
 
+/* How a call uses the journal: as the case does, mostly. The other way, or another place, is any caller's right too. */
+static void some_mode(struct dice *d, const struct test_case *c, struct call *call)
+{
+    bool other = percent(d, 3);
+
+    call->ring = other ? c->ring == 0 : c->ring;
+    call->set_place = call->ring && percent(d, other ? 50 : 3);
+    call->place = some_place(d, c->journal_len);
+    if (call->ring && call->n > RING_RUN)
+        call->n %= RING_RUN;
+}
+
 static void fill_call(struct writer *w, const struct test_case *c, struct call *call)
 {
     struct dice *d = w->dice;
@@ -929,11 +1025,12 @@ static void fill_call(struct writer *w, const struct test_case *c, struct call *
     call->journal_len = c->journal_len;
     call->writable = c->writable;
     call->n = some_run(d);
+    some_mode(d, c, call);
     if (call->kind == CALL_VIEW)
         some_view(d, call);
     if (percent(d, 6))
         some_other_groups(d, call);
-    if (call->kind == CALL_BACK && percent(d, 22))
+    if (percent(d, call->kind == CALL_BACK ? 22 : call->ring ? 4 : 0))
         some_damage(d, call);
     if (percent(d, 2))
         spoil_length(d, call);
@@ -994,6 +1091,49 @@ static void write_gram_code(struct writer *w, struct test_case *c)
         put_instruction(w, 3);
 }
 
+/* An instruction that is refused by nothing but its journal: 2 to 5 words, or an FMT of up to 30. */
+static void put_lasting(struct writer *w)
+{
+    struct dice *d = w->dice;
+
+    switch (below(d, 5)) {
+    case 0: /* INC to DECT */
+        put(w, between(d, 0x90, 0x97));
+        put(w, below(d, 0x10));
+        break;
+    case 1: /* ADD and SUB, AND to ST, all with an immediate byte */
+        put(w, 0xA2 + 4 * (one_in(d, 2) ? below(d, 2) : between(d, 4, 7)));
+        put(w, between(d, 0x50, 0x6F));
+        put(w, edge_byte(d));
+        break;
+    case 2: /* RAND */
+        put_word(w, 0x0200 | below(d, 256));
+        break;
+    case 3: /* BACK */
+        put_word(w, 0x0400 | below(d, 256));
+        break;
+    default: /* a character, repeated */
+        put(w, 0x08);
+        put(w, 0x40 | short_count(d) % 9);
+        put(w, below(d, 256));
+        put(w, 0xFB);
+        break;
+    }
+}
+
+/* A loop without an end, for runs that go round a ring many times. */
+static void write_loop(struct writer *w, struct test_case *c)
+{
+    uint32_t instructions = between(w->dice, 1, 6);
+
+    add_label(w);
+    c->pc = w->at;
+    for (uint32_t i = 0; i < instructions; i++)
+        put_lasting(w);
+    put(w, 0x05);
+    put_word(w, c->pc);
+}
+
 static void write_code(struct writer *w, struct test_case *c)
 {
     struct dice *d = w->dice;
@@ -1041,6 +1181,8 @@ void maker_make(struct maker *m, uint64_t number, struct test_case *c)
     write_code(&w, c);
     if (about_gram)
         write_gram_code(&w, c);
+    else if (c->ring && one_in(&d, 3))
+        write_loop(&w, c);
     fill_return_stack(&w, c->pad);
 
     c->call_count = (int)between(&d, 1, CASE_CALLS_MAX);

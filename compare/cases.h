@@ -35,6 +35,9 @@ struct call {
     /* the lengths as lent */
     size_t image_len, pad_len, vdp_len, reg_len, journal_len;
     size_t used_beyond; /* if not 0: used is lent as the journal's length plus this */
+    uint8_t ring;
+    bool place_past;    /* place is lent as the journal's length plus place_by, for this call alone */
+    size_t place_by;
     uint8_t writable;
 
     bool set_pc;
@@ -42,6 +45,8 @@ struct call {
     bool set_pad;
     uint8_t pad_at, pad_byte;
     size_t drop_used;   /* used goes down by so much, at most to 0 */
+    bool set_place;     /* the ring begins elsewhere: what was laid is now any words */
+    size_t place;
     bool damage;        /* the word so far below the top is changed, if it is there */
     size_t damage_below;
     uint32_t damage_and, damage_xor;
@@ -57,6 +62,8 @@ struct test_case {
     uint32_t *journal; /* the maker's own */
     size_t journal_len;
     size_t used;
+    uint8_t ring; /* of most calls; any value but 0 asks for a ring */
+    size_t place; /* in a ring below the journal's length, or 0 */
     uint16_t pc;
     int call_count;
     struct call call[CASE_CALLS_MAX];

@@ -41,6 +41,23 @@ struct counts {
     uint64_t grom_stores, grom_wraps;
     uint64_t rewritten;           /* steps accepted at an opcode that isn't the one at the case's start */
     uint64_t grom_refusals[256];
+
+    /* of rings */
+    uint64_t ring_calls, ring_answers[256];
+    uint64_t dropped;             /* words */
+    uint64_t dropping_calls, dropping_cases;
+    uint64_t rounds, round_cases; /* a round: as many words dropped as the journal has */
+    uint64_t lost;                /* calls whose first step was refused and had dropped some */
+    uint64_t no_room_lost;        /* of these, those that answered 10 */
+    uint64_t backs_round;         /* steps taken back in a ring that had dropped some */
+    uint64_t past_oldest;         /* step-backs there that found no word */
+};
+
+/* What the calls hand on to one another. */
+struct at {
+    uint16_t pc;
+    size_t used;
+    size_t place;
 };
 
 static const struct machine peer_machine = {"peer", peer_step, peer_run, peer_step_back, peer_view};
@@ -127,22 +144,41 @@ static void side_start(struct side *s, const struct test_case *c)
 
 /* ---- calls ---- */
 
+/* The i-th kept word, as a call finds it. A place that it will turn down may be any. */
+static uint32_t *kept_word(const struct side *s, const struct call *call, size_t place, size_t i)
+{
+    size_t len = s->journal.len / sizeof(uint32_t);
+    return journal_words(s) + (call->ring ? (place % len + i) % len : i);
+}
+
 /* What is changed before a call, the same on both sides. */
-static void edit_side(struct side *s, const struct call *call, size_t used)
+static void edit_side(struct side *s, const struct call *call, const struct at *at)
 {
     if (call->set_pad)
         part_bytes(&s->pad)[call->pad_at] = call->pad_byte;
-    if (call->damage && call->damage_below < used) {
-        uint32_t *word = journal_words(s) + (used - 1 - call->damage_below);
+    if (call->damage && call->damage_below < at->used) {
+        uint32_t *word = kept_word(s, call, at->place, at->used - 1 - call->damage_below);
         *word = (*word & call->damage_and) ^ call->damage_xor;
     }
 }
 
-static void edit_numbers(const struct call *call, uint16_t *pc, size_t *used)
+static void edit_numbers(const struct call *call, struct at *at)
 {
     if (call->set_pc)
-        *pc = call->pc;
-    *used -= call->drop_used < *used ? call->drop_used : *used;
+        at->pc = call->pc;
+    at->used -= call->drop_used < at->used ? call->drop_used : at->used;
+    if (call->set_place)
+        at->place = call->place;
+}
+
+/* What was lent wrong is not handed on. */
+static void hand_on(const struct call *call, const peer_report *r, struct at *at)
+{
+    at->pc = r->pc;
+    if (!call->used_beyond)
+        at->used = r->used;
+    if (!call->place_past)
+        at->place = r->place;
 }
 
 static size_t lent_used(const struct call *call, size_t used)
@@ -150,28 +186,37 @@ static size_t lent_used(const struct call *call, size_t used)
     return call->used_beyond ? call->journal_len + call->used_beyond : used;
 }
 
-static struct outcome make_call(struct side *s, const struct call *call, uint16_t pc, size_t used)
+static size_t lent_place(const struct call *call, size_t place)
+{
+    return call->place_past ? call->journal_len + call->place_by : place;
+}
+
+static struct outcome make_call(struct side *s, const struct call *call, const struct at *at)
 {
     const struct machine *m = s->machine;
     uint8_t *image = part_bytes(&s->image), *pad = part_bytes(&s->pad);
     uint8_t *vdp = part_bytes(&s->vdp), *reg = part_bytes(&s->reg);
     uint32_t *journal = journal_words(s);
+    uint16_t pc = at->pc;
+    size_t used = lent_used(call, at->used), place = lent_place(call, at->place);
     struct outcome out;
 
     memset(&out, 0, sizeof out);
-    used = lent_used(call, used);
     switch (call->kind) {
     case CALL_STEP:
         out.report = m->step(image, call->image_len, pad, call->pad_len, vdp, call->vdp_len, reg,
-                             call->reg_len, journal, call->journal_len, pc, used, call->writable);
+                             call->reg_len, journal, call->journal_len, pc, used, call->ring, place,
+                             call->writable);
         break;
     case CALL_RUN:
         out.report = m->run(image, call->image_len, pad, call->pad_len, vdp, call->vdp_len, reg,
-                            call->reg_len, journal, call->journal_len, pc, used, call->writable, call->n);
+                            call->reg_len, journal, call->journal_len, pc, used, call->ring, place,
+                            call->writable, call->n);
         break;
     case CALL_BACK:
         out.report = m->step_back(image, call->image_len, pad, call->pad_len, vdp, call->vdp_len, reg,
-                                  call->reg_len, journal, call->journal_len, pc, used, call->writable);
+                                  call->reg_len, journal, call->journal_len, pc, used, call->ring, place,
+                                  call->writable);
         break;
     case CALL_VIEW:
         out.shown = m->view(call->pad_len, call->vdp_len, call->memory, call->at, call->len, &out.offset);
@@ -179,6 +224,7 @@ static struct outcome make_call(struct side *s, const struct call *call, uint16_
             out.offset = 0; /* an empty part has no place */
         out.report.pc = pc;
         out.report.used = used;
+        out.report.place = place;
         break;
     }
     return out;
@@ -189,7 +235,7 @@ static struct outcome make_call(struct side *s, const struct call *call, uint16_
 static bool same_report(const peer_report *a, const peer_report *b)
 {
     return a->answer == b->answer && a->pc == b->pc && a->used == b->used && a->steps == b->steps &&
-           a->stores == b->stores && a->address == b->address;
+           a->stores == b->stores && a->address == b->address && a->place == b->place;
 }
 
 static bool same_part(const struct part *a, const struct part *b)
@@ -211,9 +257,10 @@ static bool guarded(const struct side *s)
 
 static void print_outcome(const struct machine *m, const struct outcome *o)
 {
-    printf("# %s: answer %u pc %04X used %zu steps %" PRIu32 " stores %" PRIu64 " address %04X shown %zu offset %zu\n",
+    printf("# %s: answer %u pc %04X used %zu steps %" PRIu32 " stores %" PRIu64
+           " address %04X place %zu shown %zu offset %zu\n",
            m->name, o->report.answer, o->report.pc, o->report.used, o->report.steps, o->report.stores,
-           o->report.address, o->shown, o->offset);
+           o->report.address, o->report.place, o->shown, o->offset);
 }
 
 static void print_part_difference(const char *name, const struct part *a, const struct part *b)
@@ -263,14 +310,14 @@ static void print_bytes(const char *name, int digits, const uint8_t *bytes, size
     }
 }
 
-/* A long journal is shown about its used count only. */
-static void print_journal(const struct side *s, size_t used)
+/* A long journal is shown about its used count only, which is its top unless it is a ring. */
+static void print_journal(const struct side *s, size_t used, size_t place)
 {
     size_t len = s->journal.len / sizeof(uint32_t);
     size_t from = len > 8192 && used > 256 ? used - 256 : 0;
     size_t to = len > 8192 && used + 256 < len ? used + 256 : len;
 
-    printf("# journal length %zu\n# used %zu\n", len, used);
+    printf("# journal length %zu\n# used %zu\n# place %zu\n", len, used, place);
     for (size_t row = from; row < to; row += 8) {
         printf("# journal %zu", row);
         for (size_t i = row; i < row + 8 && i < to; i++)
@@ -283,40 +330,39 @@ static void print_call(const struct call *call)
 {
     printf("# call %s n %" PRIu32 " memory %d at %zu len %zu\n", kind_name[call->kind], call->n, call->memory,
            call->at, call->len);
-    printf("# lent image %zu pad %zu vdp %zu reg %zu journal %zu, writable groups %02X\n", call->image_len,
-           call->pad_len, call->vdp_len, call->reg_len, call->journal_len, call->writable);
+    printf("# lent image %zu pad %zu vdp %zu reg %zu journal %zu, ring %u, writable groups %02X\n", call->image_len,
+           call->pad_len, call->vdp_len, call->reg_len, call->journal_len, call->ring, call->writable);
     if (call->used_beyond)
         printf("# used lent as the journal's length plus %zu\n", call->used_beyond);
+    if (call->place_past)
+        printf("# place lent as the journal's length plus %zu\n", call->place_by);
 }
 
 /* Makes the calls before the failing one again, with one machine alone. */
-static void replay(struct side *s, const struct test_case *c, int failing, uint16_t *pc, size_t *used)
+static struct at replay(struct side *s, const struct test_case *c, int failing)
 {
-    *pc = c->pc;
-    *used = c->used;
+    struct at at = {c->pc, c->used, c->place};
+
     side_start(s, c);
     for (int i = 0; i <= failing; i++) {
         const struct call *call = &c->call[i];
-        edit_numbers(call, pc, used);
-        edit_side(s, call, *used);
+        edit_numbers(call, &at);
+        edit_side(s, call, &at);
         if (i == failing)
             break;
-        struct outcome out = make_call(s, call, *pc, *used);
-        *pc = out.report.pc;
-        if (!call->used_beyond)
-            *used = out.report.used;
+        struct outcome out = make_call(s, call, &at);
+        hand_on(call, &out.report, &at);
     }
+    return at;
 }
 
 static struct outcome replay_run(struct side *s, const struct test_case *c, int failing, uint32_t n)
 {
     struct call call = c->call[failing];
-    uint16_t pc;
-    size_t used;
+    struct at at = replay(s, c, failing);
 
-    replay(s, c, failing, &pc, &used);
     call.n = n;
-    return make_call(s, &call, pc, used);
+    return make_call(s, &call, &at);
 }
 
 /* The step of a run after which the sides first differ. */
@@ -341,18 +387,17 @@ static void print_first_step(struct side *a, struct side *b, const struct test_c
 
 static void print_state_before(struct side *a, const struct test_case *c, int failing)
 {
-    uint16_t pc;
-    size_t used;
+    struct at at = replay(a, c, failing);
 
-    replay(a, c, failing, &pc, &used);
     print_call(&c->call[failing]);
-    printf("# image length %zu, the program's is 32768 and has no writable group\n", c->image_len);
-    print_journal(a, used);
+    printf("# image length %zu, the program's is 32768, its journal is plain, and it has no writable group\n",
+           c->image_len);
+    print_journal(a, at.used, at.place);
     print_bytes("grom", 4, part_bytes(&a->image), c->image_len, 32768);
     print_bytes("pad", 2, part_bytes(&a->pad), a->pad.len, a->pad.len);
     print_bytes("vdp", 4, part_bytes(&a->vdp), a->vdp.len, a->vdp.len);
     print_bytes("reg", 2, part_bytes(&a->reg), a->reg.len, a->reg.len);
-    printf("pc\t%04X\n", pc);
+    printf("pc\t%04X\n", at.pc);
     printf("run\t%" PRIu32 "\n", c->call[failing].kind == CALL_RUN ? c->call[failing].n : 1);
 }
 
@@ -392,27 +437,56 @@ static void swap_byte(uint8_t *image, uint32_t *word)
     *word = (*word & ~0xFFu) | byte;
 }
 
-/* The marks of a step or run name the opcodes that were done, as the image then was. */
-static void count_words(struct counts *n, const struct side *s, const struct test_case *c, size_t from, size_t to)
+/* The marks of a step or run name the opcodes that were done, as the image then was. Those of dropped steps are gone. */
+static void count_words(struct counts *n, const struct side *s, const struct test_case *c, const struct call *call,
+                        const peer_report *r)
 {
-    uint32_t *journal = journal_words(s);
     uint8_t *image = part_bytes(&s->image);
+    uint64_t own = r->steps + r->stores;
+    size_t from = own < r->used ? r->used - (size_t)own : 0;
 
-    for (size_t i = to; i > from; i--) {
-        uint32_t *word = &journal[i - 1];
+    for (size_t i = r->used; i > from; i--) {
+        uint32_t *word = kept_word(s, call, r->place, i - 1);
         if (*word >> 29 == 3) {
             uint16_t pc = (uint16_t)*word;
             n->opcode[image[pc]]++;
             n->rewritten += image[pc] != c->image[pc];
-        } else if (*word >> 29 == 4) {
+        } else if (*word >> 29 == 4) { /* never the first, which is a mark */
             n->grom_stores++;
-            n->grom_wraps += *word >> 8 == 0x800000 && word[-1] >> 8 == 0x80FFFF;
+            n->grom_wraps += *word >> 8 == 0x800000 && *kept_word(s, call, r->place, i - 2) >> 8 == 0x80FFFF;
             swap_byte(image, word);
         }
     }
-    for (size_t i = from; i < to; i++)
-        if (journal[i] >> 29 == 4)
-            swap_byte(image, &journal[i]);
+    for (size_t i = from; i < r->used; i++)
+        if (*kept_word(s, call, r->place, i) >> 29 == 4)
+            swap_byte(image, kept_word(s, call, r->place, i));
+}
+
+/* Words dropped by a call in a ring: those that it found and took, less those that are left. */
+static void count_ring(struct counts *n, const struct call *call, const peer_report *r, size_t used, uint64_t *dropped)
+{
+    n->ring_calls++;
+    n->ring_answers[r->answer]++;
+    if (r->answer == 11)
+        return;
+    if (call->kind == CALL_BACK) {
+        n->backs_round += *dropped != 0 && r->answer == 0;
+        n->past_oldest += *dropped != 0 && used == 0;
+        return;
+    }
+    uint64_t gone = used + r->steps + r->stores - r->used;
+    if (gone == 0)
+        return;
+    if (r->steps == 0) { /* so the refused step alone dropped them */
+        n->lost++;
+        n->no_room_lost += r->answer == 10;
+    }
+    n->dropping_calls++;
+    n->dropping_cases += *dropped == 0;
+    n->dropped += gone;
+    n->rounds += (*dropped + gone) / call->journal_len - *dropped / call->journal_len;
+    n->round_cases += *dropped < call->journal_len && *dropped + gone >= call->journal_len;
+    *dropped += gone;
 }
 
 /* The opcode at which a call was refused. */
@@ -424,8 +498,9 @@ static bool refused_at_move_to_grom(const struct side *s, const struct call *cal
     return op >= 0x20 && op <= 0x25;
 }
 
+/* dropped: how many words this case's calls dropped before */
 static void count_call(struct counts *n, const struct side *s, const struct test_case *c,
-                       const struct call *call, const struct outcome *o, size_t used)
+                       const struct call *call, const struct outcome *o, size_t used, uint64_t *dropped)
 {
     n->calls++;
     n->calls_of_kind[call->kind]++;
@@ -434,6 +509,8 @@ static void count_call(struct counts *n, const struct side *s, const struct test
         return;
     }
     n->answers[o->report.answer]++;
+    if (call->ring)
+        count_ring(n, call, &o->report, used, dropped);
     if (call->kind == CALL_BACK)
         return;
     if (call->kind == CALL_STEP)
@@ -443,7 +520,7 @@ static void count_call(struct counts *n, const struct side *s, const struct test
     if (refused_at_move_to_grom(s, call, o))
         n->grom_refusals[o->report.answer]++;
     if (o->report.answer != 11)
-        count_words(n, s, c, used, o->report.used);
+        count_words(n, s, c, call, &o->report);
 }
 
 static bool opcode_is_done(int op)
@@ -453,6 +530,20 @@ static bool opcode_is_done(int op)
     if (op >= 0x30 && op <= 0x3F)
         return (op & 6) != 6;
     return (op >= 0x20 && op <= 0x25) || (op >= 0x40 && op <= 0x97) || (op >= 0xA0 && op <= 0xEB && (op & 0xFE) != 0xC2) || op == 0xED;
+}
+
+static void print_ring_counts(const struct counts *n)
+{
+    printf("\nrings: %" PRIu64 " calls, answers", n->ring_calls);
+    for (int i = 0; i < 256; i++)
+        if (n->ring_answers[i])
+            printf(" %d:%" PRIu64, i, n->ring_answers[i]);
+    printf("\nrings: %" PRIu64 " words dropped in %" PRIu64 " calls of %" PRIu64 " cases; %" PRIu64
+           " cases went round, %" PRIu64 " times in all\n",
+           n->dropped, n->dropping_calls, n->dropping_cases, n->round_cases, n->rounds);
+    printf("rings: %" PRIu64 " calls lost steps by a first step that was refused, %" PRIu64
+           " of them with 10; after some were dropped, %" PRIu64 " steps taken back, %" PRIu64 " step-backs past the oldest",
+           n->lost, n->no_room_lost, n->backs_round, n->past_oldest);
 }
 
 static void print_counts(const struct counts *n)
@@ -482,6 +573,7 @@ static void print_counts(const struct counts *n)
     for (int i = 0; i < 256; i++)
         if (n->grom_refusals[i])
             printf(" %d:%" PRIu64, i, n->grom_refusals[i]);
+    print_ring_counts(n);
     printf("\nopcodes never accepted: %d\nopcodes accepted that must not be: %d\n", never, wrong);
 }
 
@@ -490,27 +582,25 @@ static void print_counts(const struct counts *n)
 static bool compare_case(const struct maker *m, uint64_t number, struct side *a, struct side *b,
                          const struct test_case *c, struct counts *n)
 {
-    uint16_t pc = c->pc;
-    size_t used = c->used;
+    struct at at = {c->pc, c->used, c->place};
+    uint64_t dropped = 0;
 
     side_start(a, c);
     side_start(b, c);
     for (int i = 0; i < c->call_count; i++) {
         const struct call *call = &c->call[i];
-        edit_numbers(call, &pc, &used);
-        edit_side(a, call, used);
-        edit_side(b, call, used);
-        struct outcome x = make_call(a, call, pc, used);
-        struct outcome y = make_call(b, call, pc, used);
+        edit_numbers(call, &at);
+        edit_side(a, call, &at);
+        edit_side(b, call, &at);
+        struct outcome x = make_call(a, call, &at);
+        struct outcome y = make_call(b, call, &at);
         if (!same_report(&x.report, &y.report) || x.shown != y.shown || x.offset != y.offset ||
             !same_sides(a, b) || !guarded(a) || !guarded(b)) {
             print_difference(m, number, a, b, c, i, &x, &y);
             return false;
         }
-        count_call(n, a, c, call, &x, used);
-        pc = x.report.pc;
-        if (!call->used_beyond)
-            used = x.report.used;
+        count_call(n, a, c, call, &x, at.used, &dropped);
+        hand_on(call, &x.report, &at);
     }
     n->cases++;
     return true;

@@ -8,14 +8,16 @@ struct machine {
     const char *name;
     peer_report (*step)(uint8_t *image, size_t image_len, uint8_t *pad, size_t pad_len,
                         uint8_t *vdp, size_t vdp_len, uint8_t *reg, size_t reg_len,
-                        uint32_t *journal, size_t journal_len, uint16_t pc, size_t used, uint8_t writable);
+                        uint32_t *journal, size_t journal_len,
+                        uint16_t pc, size_t used, uint8_t ring, size_t place, uint8_t writable);
     peer_report (*run)(uint8_t *image, size_t image_len, uint8_t *pad, size_t pad_len,
                        uint8_t *vdp, size_t vdp_len, uint8_t *reg, size_t reg_len,
-                       uint32_t *journal, size_t journal_len, uint16_t pc, size_t used, uint8_t writable,
-                       uint32_t n);
+                       uint32_t *journal, size_t journal_len,
+                       uint16_t pc, size_t used, uint8_t ring, size_t place, uint8_t writable, uint32_t n);
     peer_report (*step_back)(uint8_t *image, size_t image_len, uint8_t *pad, size_t pad_len,
                              uint8_t *vdp, size_t vdp_len, uint8_t *reg, size_t reg_len,
-                             uint32_t *journal, size_t journal_len, uint16_t pc, size_t used, uint8_t writable);
+                             uint32_t *journal, size_t journal_len,
+                             uint16_t pc, size_t used, uint8_t ring, size_t place, uint8_t writable);
     size_t (*view)(size_t pad_len, size_t vdp_len, int memory, size_t at, size_t len, size_t *offset);
 };
 

@@ -8,7 +8,7 @@ static peer_report report_of(uint8_t answer, const uint64_t out[ARGOLYTHE_OUTS])
 {
     return (peer_report){answer, (uint16_t)out[ARGOLYTHE_OUT_PC], (size_t)out[ARGOLYTHE_OUT_USED],
                          (uint32_t)out[ARGOLYTHE_OUT_STEPS], out[ARGOLYTHE_OUT_STORES],
-                         (uint16_t)out[ARGOLYTHE_OUT_ADDRESS]};
+                         (uint16_t)out[ARGOLYTHE_OUT_ADDRESS], (size_t)out[ARGOLYTHE_OUT_PLACE]};
 }
 
 /* Numbers that no call may leave standing, so that one that says nothing is seen. */
@@ -21,37 +21,39 @@ static void spoil(uint64_t out[ARGOLYTHE_OUTS])
 /* One step, as the harness asks for it. */
 static peer_report step(uint8_t *image, size_t image_len, uint8_t *pad, size_t pad_len,
                         uint8_t *vdp, size_t vdp_len, uint8_t *reg, size_t reg_len,
-                        uint32_t *journal, size_t journal_len, uint16_t pc, size_t used, uint8_t writable)
+                        uint32_t *journal, size_t journal_len,
+                        uint16_t pc, size_t used, uint8_t ring, size_t place, uint8_t writable)
 {
     uint64_t out[ARGOLYTHE_OUTS];
     spoil(out);
     uint8_t answer = argolythe_step(image, image_len, pad, pad_len, vdp, vdp_len, reg, reg_len,
-                                    journal, journal_len, pc, used, writable, out);
+                                    journal, journal_len, pc, used, ring, place, writable, out);
     return report_of(answer, out);
 }
 
 /* A run, as the harness asks for it. */
 static peer_report run(uint8_t *image, size_t image_len, uint8_t *pad, size_t pad_len,
                        uint8_t *vdp, size_t vdp_len, uint8_t *reg, size_t reg_len,
-                       uint32_t *journal, size_t journal_len, uint16_t pc, size_t used, uint8_t writable,
-                       uint32_t n)
+                       uint32_t *journal, size_t journal_len,
+                       uint16_t pc, size_t used, uint8_t ring, size_t place, uint8_t writable, uint32_t n)
 {
     uint64_t out[ARGOLYTHE_OUTS];
     spoil(out);
     uint8_t answer = argolythe_run(image, image_len, pad, pad_len, vdp, vdp_len, reg, reg_len,
-                                   journal, journal_len, pc, used, writable, n, out);
+                                   journal, journal_len, pc, used, ring, place, writable, n, out);
     return report_of(answer, out);
 }
 
 /* The archive counts a step taken back as one step, the peer as none: any other count stays a difference. */
 static peer_report step_back(uint8_t *image, size_t image_len, uint8_t *pad, size_t pad_len,
                              uint8_t *vdp, size_t vdp_len, uint8_t *reg, size_t reg_len,
-                             uint32_t *journal, size_t journal_len, uint16_t pc, size_t used, uint8_t writable)
+                             uint32_t *journal, size_t journal_len,
+                             uint16_t pc, size_t used, uint8_t ring, size_t place, uint8_t writable)
 {
     uint64_t out[ARGOLYTHE_OUTS];
     spoil(out);
     uint8_t answer = argolythe_step_back(image, image_len, pad, pad_len, vdp, vdp_len, reg, reg_len,
-                                         journal, journal_len, pc, used, writable, out);
+                                         journal, journal_len, pc, used, ring, place, writable, out);
     out[ARGOLYTHE_OUT_STEPS] -= answer == ARGOLYTHE_DONE ? 1 : 0;
     return report_of(answer, out);
 }

@@ -78,7 +78,10 @@ struct bench {
     uint8_t *reg;
     uint32_t *journal;
     size_t journal_len;
+    bool ring;
+    size_t place; /* of the oldest kept word; 0 in the plain mode */
     size_t used;
+    size_t older; /* of these, how many aren't the current step's own */
     uint32_t image_len;
     uint16_t pc;
     uint8_t writable;
@@ -144,15 +147,62 @@ static inline uint32_t next_word(struct bench *b)
     return high << 8 | low;
 }
 
+/* ---- the journal: plain, or the ring of 02, item 5 ---- */
+
+/* Where the i-th kept word is, from the oldest on, and past the journal's end at its start again. */
+static inline size_t slot(const struct bench *b, size_t i)
+{
+    size_t at = b->place + i;
+    return at < b->journal_len ? at : at - b->journal_len;
+}
+
+/* By its kind alone: one with a surplus bit is a mark too. */
+static inline bool is_mark(uint32_t word)
+{
+    return word >> KIND_SHIFT == KIND_MARK;
+}
+
+/* "Lent words with no mark below them are dropped together, as one oldest step": so a step is
+   the first word, mark or not, and all up to the next mark.  False if the step at work has all. */
+static bool drop_oldest(struct bench *b)
+{
+    size_t count = 0;
+
+    if (b->older == 0)
+        return false;
+    do
+        b->journal[slot(b, count++)] = 0; /* "Words of dropped steps that aren't yet reused hold 0" */
+    while (count < b->older && !is_mark(b->journal[slot(b, count)]));
+    b->place = slot(b, count);
+    b->used -= count;
+    b->older -= count;
+    return true;
+}
+
+/* "when a step needs room, let whole oldest steps be dropped .., as few as will do": one gives room.
+   Not in line, so that the stores stay short. */
+__attribute__((noinline)) static bool make_room(struct bench *b)
+{
+    if (!b->ring || !drop_oldest(b))
+        return refuse(b, JOURNAL_FULL); /* "no journal word left" */
+    return true;
+}
+
+/* "Steps are dropped as each word is needed" */
+static inline bool lay(struct bench *b, uint32_t word)
+{
+    if (b->used == b->journal_len && !make_room(b))
+        return false;
+    b->journal[slot(b, b->used++)] = word;
+    return true;
+}
+
 /* ---- stores ---- */
 
 /* "the address times 256 plus the byte that stood there" */
 static inline bool keep(struct bench *b, uint32_t kind, uint32_t at, uint8_t old)
 {
-    if (b->used == b->journal_len)
-        return refuse(b, JOURNAL_FULL); /* "no journal word left" */
-    b->journal[b->used++] = kind << KIND_SHIFT | at << 8 | old;
-    return true;
+    return lay(b, kind << KIND_SHIFT | at << 8 | old);
 }
 
 /* "For one store, 4, 5, .. or 13 comes before 10." */
@@ -1108,28 +1158,19 @@ static inline uint32_t address_in(uint32_t word)
     return word >> 8 & 0x1FFFFF;
 }
 
-/* Takes words off the top of the journal, down to the count given: each cell gets back the byte that stood there. */
-static inline void take_off(uint8_t *image, uint8_t *pad, uint8_t *vdp, uint8_t *reg, uint32_t *journal, size_t from,
-                            size_t to)
+/* Takes so many words off the top of the journal: each cell gets back the byte that stood there. */
+static inline void take_off(struct bench *b, size_t count)
 {
     uint8_t *const memory[] = {
-        [KIND_CPU] = pad, [KIND_VDP] = vdp, [KIND_REG] = reg, [KIND_MARK] = NULL, [KIND_GROM] = image};
+        [KIND_CPU] = b->pad, [KIND_VDP] = b->vdp, [KIND_REG] = b->reg, [KIND_MARK] = NULL, [KIND_GROM] = b->image};
 
-    while (from > to) {
-        uint32_t word = journal[--from];
-        uint32_t kind = word >> KIND_SHIFT;
-        journal[from] = 0;
-        if (kind != KIND_MARK) /* a mark names no cell */
-            memory[kind][address_in(word)] = (uint8_t)word;
+    for (; count > 0; count--) {
+        uint32_t *top = &b->journal[slot(b, --b->used)];
+        uint32_t word = *top;
+        *top = 0;
+        if (!is_mark(word)) /* a mark names no cell */
+            memory[word >> KIND_SHIFT][address_in(word)] = (uint8_t)word;
     }
-}
-
-/* "A refused step puts all back; the journal words it had taken become 0."
-   02, item 9: "A refused step returns the image too". */
-static void put_back(struct bench *b, size_t used)
-{
-    take_off(b->image, b->pad, b->vdp, b->reg, b->journal, b->used, used);
-    b->used = used;
 }
 
 /* Everything of a step that moves pc or stores; put back by its caller if refused. */
@@ -1144,9 +1185,8 @@ static inline bool attempt(struct bench *b)
     if (answer != DONE)
         return refuse(b, answer);
     /* "A step takes a mark word first, for every opcode that 2, 3 and 1 don't stop." */
-    if (!keep(b, KIND_MARK, 0, 0))
+    if (!lay(b, KIND_MARK << KIND_SHIFT | pc)) /* "carries the old pc in its low 16 bits" */
         return false;
-    b->journal[b->used - 1] |= pc; /* "carries the old pc in its low 16 bits" */
     b->pc = after(pc);
     return execute(b, op);
 }
@@ -1155,11 +1195,13 @@ static inline bool attempt(struct bench *b)
 static inline bool step(struct bench *b)
 {
     uint16_t pc = b->pc;
-    size_t used = b->used;
 
+    b->older = b->used;
     if (attempt(b))
         return true;
-    put_back(b, used);
+    /* "A refused step puts all back; the journal words it had taken become 0."
+       02, item 5: "a refused step, 10 included, has still lost them", item 9: "returns the image too". */
+    take_off(b, b->used - b->older);
     b->pc = pc;
     return false;
 }
@@ -1170,6 +1212,12 @@ static inline bool step(struct bench *b)
 static bool bad_image(size_t image_len)
 {
     return image_len == 0 || image_len > (size_t)MAX_GROUPS * GROUP_LEN || image_len % GROUP_LEN != 0;
+}
+
+/* "(11 if not 0 and past the journal)", in a ring: the plain mode doesn't look at it */
+static bool bad_place(size_t journal_len, uint8_t ring, size_t place)
+{
+    return ring != 0 && place != 0 && place >= journal_len;
 }
 
 /* "a lent part has a wrong length, or used exceeds the journal" */
@@ -1185,11 +1233,11 @@ peer_report peer_run(uint8_t *image, size_t image_len,
                      uint8_t *vdp, size_t vdp_len,
                      uint8_t *reg, size_t reg_len,
                      uint32_t *journal, size_t journal_len,
-                     uint16_t pc, size_t used, uint8_t writable, uint32_t n)
+                     uint16_t pc, size_t used, uint8_t ring, size_t place, uint8_t writable, uint32_t n)
 {
     /* "Answer 11 is tested first and touches nothing." */
-    if (bad_lengths(image_len, pad_len, vdp_len, reg_len, journal_len, used))
-        return (peer_report){BAD_LENGTH, pc, used, 0, 0, 0};
+    if (bad_lengths(image_len, pad_len, vdp_len, reg_len, journal_len, used) || bad_place(journal_len, ring, place))
+        return (peer_report){BAD_LENGTH, pc, used, 0, 0, 0, place};
 
     struct bench b = {
         .image = image,
@@ -1198,6 +1246,8 @@ peer_report peer_run(uint8_t *image, size_t image_len,
         .reg = reg,
         .journal = journal,
         .journal_len = journal_len,
+        .ring = ring != 0,
+        .place = ring ? place : 0,
         .used = used,
         .image_len = (uint32_t)image_len,
         .pc = pc,
@@ -1206,12 +1256,12 @@ peer_report peer_run(uint8_t *image, size_t image_len,
         .where = 0,
     };
     uint32_t steps = 0;
+    uint64_t stores = 0;
 
     /* "A run makes up to n steps, stops at the first answer other than 0" */
-    while (steps < n && step(&b))
-        steps++;
-    /* Each step done took one mark; every other word is a store. */
-    return (peer_report){b.why, b.pc, b.used, steps, b.used - used - steps, b.where};
+    for (; steps < n && step(&b); steps++)
+        stores += b.used - b.older - 1; /* each step done took one mark; every other word is a store */
+    return (peer_report){b.why, b.pc, b.used, steps, stores, b.where, ring ? b.place : place};
 }
 
 peer_report peer_step(uint8_t *image, size_t image_len,
@@ -1219,10 +1269,10 @@ peer_report peer_step(uint8_t *image, size_t image_len,
                       uint8_t *vdp, size_t vdp_len,
                       uint8_t *reg, size_t reg_len,
                       uint32_t *journal, size_t journal_len,
-                      uint16_t pc, size_t used, uint8_t writable)
+                      uint16_t pc, size_t used, uint8_t ring, size_t place, uint8_t writable)
 {
     return peer_run(image, image_len, pad, pad_len, vdp, vdp_len, reg, reg_len,
-                    journal, journal_len, pc, used, writable, 1);
+                    journal, journal_len, pc, used, ring, place, writable, 1);
 }
 
 /* "names no cell (pad above >DF, register above 7, VDP above >3FFF) or has a surplus bit";
@@ -1246,28 +1296,50 @@ static bool sound(uint32_t word, size_t image_len, uint8_t writable)
     }
 }
 
+/* How many words the newest record has; 0 if there is none or one of them isn't sound. */
+static size_t newest_record(const struct bench *b)
+{
+    for (size_t count = 1; count <= b->used; count++) {
+        uint32_t word = b->journal[slot(b, b->used - count)];
+        if (!sound(word, b->image_len, b->writable))
+            return 0;
+        if (is_mark(word))
+            return count;
+    }
+    return 0;
+}
+
 peer_report peer_step_back(uint8_t *image, size_t image_len,
                            uint8_t *pad, size_t pad_len,
                            uint8_t *vdp, size_t vdp_len,
                            uint8_t *reg, size_t reg_len,
                            uint32_t *journal, size_t journal_len,
-                           uint16_t pc, size_t used, uint8_t writable)
+                           uint16_t pc, size_t used, uint8_t ring, size_t place, uint8_t writable)
 {
-    if (bad_lengths(image_len, pad_len, vdp_len, reg_len, journal_len, used))
-        return (peer_report){BAD_LENGTH, pc, used, 0, 0, 0};
+    if (bad_lengths(image_len, pad_len, vdp_len, reg_len, journal_len, used) || bad_place(journal_len, ring, place))
+        return (peer_report){BAD_LENGTH, pc, used, 0, 0, 0, place};
 
+    struct bench b = {
+        .image = image,
+        .pad = pad,
+        .vdp = vdp,
+        .reg = reg,
+        .journal = journal,
+        .journal_len = journal_len,
+        .ring = ring != 0,
+        .place = ring ? place : 0,
+        .used = used,
+        .image_len = (uint32_t)image_len,
+        .writable = writable,
+    };
     /* "takes words from the top down to the newest mark" */
-    size_t mark = used;
-    do {
-        if (mark == 0 || !sound(journal[mark - 1], image_len, writable))
-            return (peer_report){NO_RECORD, pc, used, 0, 0, 0};
-        mark--;
-    } while (journal[mark] >> KIND_SHIFT != KIND_MARK);
-
+    size_t count = newest_record(&b);
+    if (count == 0)
+        return (peer_report){NO_RECORD, pc, used, 0, 0, 0, place};
     /* "restores each, sets pc, zeroes them" */
-    uint16_t old_pc = (uint16_t)journal[mark];
-    take_off(image, pad, vdp, reg, journal, used, mark);
-    return (peer_report){DONE, old_pc, mark, 0, 0, 0};
+    uint16_t old_pc = (uint16_t)journal[slot(&b, used - count)];
+    take_off(&b, count);
+    return (peer_report){DONE, old_pc, b.used, 0, 0, 0, place};
 }
 
 size_t peer_view(size_t pad_len, size_t vdp_len, int memory,

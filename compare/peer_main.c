@@ -12,7 +12,8 @@ enum {
     REG_LEN = 8,
     JOURNAL_LEN = 16384,
     LINE_MAX_LEN = 65546, /* "grom", an address and 32,768 bytes */
-    NO_GROUPS = 0         /* no line names a writable group */
+    NO_RING = 0,          /* no line asks for one: a plain journal, whose place is not looked at */
+    NO_GROUPS = 0         /* nor names a writable group */
 };
 
 struct memories {
@@ -154,7 +155,7 @@ static void run(struct bench *s, uint32_t n)
 {
     s->before = s->now;
     peer_report r = peer_run(s->image, IMAGE_LEN, s->now.pad, PAD_LEN, s->now.vdp, VDP_LEN,
-                             s->now.reg, REG_LEN, s->journal, JOURNAL_LEN, s->pc, s->used, NO_GROUPS, n);
+                             s->now.reg, REG_LEN, s->journal, JOURNAL_LEN, s->pc, s->used, NO_RING, 0, NO_GROUPS, n);
     s->pc = r.pc;
     s->used = r.used;
     printf("answer\t%u\t%lu\t%llu\t%04X\n", (unsigned)r.answer, (unsigned long)r.steps,

@@ -16,6 +16,7 @@ enum {
     VDP_LEN = ARGOLYTHE_VDP,
     REG_LEN = ARGOLYTHE_REG,
     JOURNAL_LEN = ARGOLYTHE_JOURNAL_MAX,
+    RING_LEN = 4096, /* words: a run in a ring drops steps nearly all the time */
     WRITABLE = 0x02, /* the group at >2000, which has no code */
     ROUNDS = 3,
     SLICES = 8 /* the two take turns so often in a round */
@@ -23,8 +24,9 @@ enum {
 
 #define SLICE_NS (300e6 / SLICES)
 
-/* What is timed of a repeat: one run of n steps; n single steps; one run that is refused and put back; n step-backs. */
-enum kind { RUN, STEPS, REFUSED, BACKS };
+/* What is timed of a repeat: one run of n steps; one in a ring; n single steps; one run that is refused and put back;
+   n step-backs. */
+enum kind { RUN, RING, STEPS, REFUSED, BACKS };
 
 struct work {
     const char *name;
@@ -95,6 +97,11 @@ static const struct work works[] = {
      "E3AF10000003" "E6B02202" "EB440005" "C441A100" "CD44B020" "D64155" "D94444" "8FA100" "83F01E10" "929031"
      "050000"},
     {"step-backs, MOVE 8192", BACKS, 200, 0, "312000A1000400" "050000"},
+    /* as the works of these names, but for the journal */
+    {"pad cells, in a ring", RING, 100000, 0,
+     "A04041" "A54244" "B2407F" "BB441234" "B64101" "E24603" "DD4A4C" "BC4641" "C44041" "D44046" "9041" "9144"
+     "C14E50" "050000"},
+    {"ALL, in a ring", RING, 2000, 0, "0720" "050000"},
 };
 
 /* What a side is lent, and where it stands. */
@@ -171,37 +178,39 @@ static double now_ns(void)
 
 /* Every number of a report goes into the sum. */
 static inline void count(struct tally *t, uint64_t answer, uint64_t pc, uint64_t used, uint64_t steps, uint64_t stores,
-                         uint64_t address)
+                         uint64_t address, uint64_t place)
 {
     t->steps += steps;
     t->stores += stores;
     t->refused += answer != 0;
-    t->sum = (t->sum * 31 + answer) * 31 + (address << 48 ^ pc << 32 ^ used << 20 ^ steps << 8 ^ stores);
+    t->sum = ((t->sum * 31 + answer) * 31 + place) * 31 + (address << 48 ^ pc << 32 ^ used << 20 ^ steps << 8 ^ stores);
 }
 
 /* What the archive left in `out`, likewise. */
 static inline void count_out(struct tally *t, uint64_t answer, const uint64_t *out)
 {
     count(t, answer, out[ARGOLYTHE_OUT_PC], out[ARGOLYTHE_OUT_USED], out[ARGOLYTHE_OUT_STEPS], out[ARGOLYTHE_OUT_STORES],
-          out[ARGOLYTHE_OUT_ADDRESS]);
+          out[ARGOLYTHE_OUT_ADDRESS], out[ARGOLYTHE_OUT_PLACE]);
 }
 
 /* One run of the peer's, from an empty journal. */
-static size_t peer_runs(struct side *s, uint32_t n, struct tally *t)
+static size_t peer_runs(const struct work *w, struct side *s, struct tally *t)
 {
+    bool ring = w->kind == RING;
     peer_report r = peer_run(s->image, IMAGE_LEN, s->pad, PAD_LEN, s->vdp, VDP_LEN, s->reg, REG_LEN, s->journal,
-                             JOURNAL_LEN, s->pc, 0, WRITABLE, n);
+                             ring ? RING_LEN : JOURNAL_LEN, s->pc, 0, ring, 0, WRITABLE, w->n);
     s->pc = r.pc;
-    count(t, r.answer, r.pc, r.used, r.steps, r.stores, r.address);
+    count(t, r.answer, r.pc, r.used, r.steps, r.stores, r.address, r.place);
     return r.used;
 }
 
 /* One run of the archive's, likewise. */
-static size_t our_runs(struct side *s, uint32_t n, struct tally *t)
+static size_t our_runs(const struct work *w, struct side *s, struct tally *t)
 {
+    bool ring = w->kind == RING;
     uint64_t out[ARGOLYTHE_OUTS];
     uint8_t answer = argolythe_run(s->image, IMAGE_LEN, s->pad, PAD_LEN, s->vdp, VDP_LEN, s->reg, REG_LEN, s->journal,
-                                   JOURNAL_LEN, s->pc, 0, WRITABLE, n, out);
+                                   ring ? RING_LEN : JOURNAL_LEN, s->pc, 0, ring, 0, WRITABLE, w->n, out);
     s->pc = (uint16_t)out[ARGOLYTHE_OUT_PC];
     count_out(t, answer, out);
     return (size_t)out[ARGOLYTHE_OUT_USED];
@@ -213,10 +222,10 @@ static void peer_steps(struct side *s, uint32_t n, struct tally *t)
     size_t used = 0;
     for (uint32_t i = 0; i < n; i++) {
         peer_report r = peer_step(s->image, IMAGE_LEN, s->pad, PAD_LEN, s->vdp, VDP_LEN, s->reg, REG_LEN, s->journal,
-                                  JOURNAL_LEN, s->pc, used, WRITABLE);
+                                  JOURNAL_LEN, s->pc, used, 0, 0, WRITABLE);
         s->pc = r.pc;
         used = r.used;
-        count(t, r.answer, r.pc, r.used, r.steps, r.stores, r.address);
+        count(t, r.answer, r.pc, r.used, r.steps, r.stores, r.address, r.place);
     }
 }
 
@@ -227,7 +236,7 @@ static void our_steps(struct side *s, uint32_t n, struct tally *t)
     uint64_t out[ARGOLYTHE_OUTS];
     for (uint32_t i = 0; i < n; i++) {
         uint8_t answer = argolythe_step(s->image, IMAGE_LEN, s->pad, PAD_LEN, s->vdp, VDP_LEN, s->reg, REG_LEN,
-                                        s->journal, JOURNAL_LEN, s->pc, used, WRITABLE, out);
+                                        s->journal, JOURNAL_LEN, s->pc, used, 0, 0, WRITABLE, out);
         s->pc = (uint16_t)out[ARGOLYTHE_OUT_PC];
         used = (size_t)out[ARGOLYTHE_OUT_USED];
         count_out(t, answer, out);
@@ -239,10 +248,10 @@ static void peer_backs(struct side *s, uint32_t n, size_t used, struct tally *t)
 {
     for (uint32_t i = 0; i < n; i++) {
         peer_report r = peer_step_back(s->image, IMAGE_LEN, s->pad, PAD_LEN, s->vdp, VDP_LEN, s->reg, REG_LEN,
-                                       s->journal, JOURNAL_LEN, s->pc, used, WRITABLE);
+                                       s->journal, JOURNAL_LEN, s->pc, used, 0, 0, WRITABLE);
         s->pc = r.pc;
         used = r.used;
-        count(t, r.answer, r.pc, r.used, 0, r.stores, r.address);
+        count(t, r.answer, r.pc, r.used, 0, r.stores, r.address, r.place);
     }
 }
 
@@ -252,11 +261,11 @@ static void our_backs(struct side *s, uint32_t n, size_t used, struct tally *t)
     uint64_t out[ARGOLYTHE_OUTS];
     for (uint32_t i = 0; i < n; i++) {
         uint8_t answer = argolythe_step_back(s->image, IMAGE_LEN, s->pad, PAD_LEN, s->vdp, VDP_LEN, s->reg, REG_LEN,
-                                             s->journal, JOURNAL_LEN, s->pc, used, WRITABLE, out);
+                                             s->journal, JOURNAL_LEN, s->pc, used, 0, 0, WRITABLE, out);
         s->pc = (uint16_t)out[ARGOLYTHE_OUT_PC];
         used = (size_t)out[ARGOLYTHE_OUT_USED];
         count(t, answer, out[ARGOLYTHE_OUT_PC], out[ARGOLYTHE_OUT_USED], 0, out[ARGOLYTHE_OUT_STORES],
-              out[ARGOLYTHE_OUT_ADDRESS]);
+              out[ARGOLYTHE_OUT_ADDRESS], out[ARGOLYTHE_OUT_PLACE]);
     }
 }
 
@@ -265,12 +274,13 @@ static void repeat(const struct work *w, struct side *s, bool ours, struct tally
 {
     size_t used = 0;
     if (w->kind == BACKS)
-        used = ours ? our_runs(s, w->n, t) : peer_runs(s, w->n, t);
+        used = ours ? our_runs(w, s, t) : peer_runs(w, s, t);
     double from = now_ns();
     switch (w->kind) {
     case RUN:
+    case RING:
     case REFUSED:
-        used = ours ? our_runs(s, w->n, t) : peer_runs(s, w->n, t);
+        used = ours ? our_runs(w, s, t) : peer_runs(w, s, t);
         break;
     case STEPS:
         ours ? our_steps(s, w->n, t) : peer_steps(s, w->n, t);
@@ -292,7 +302,7 @@ static void slice(const struct work *w, struct side *s, bool ours, uint64_t repe
     }
     double from = now_ns();
     for (uint64_t i = 0; i < repeats; i++)
-        ours ? our_runs(s, w->n, t) : peer_runs(s, w->n, t);
+        ours ? our_runs(w, s, t) : peer_runs(w, s, t);
     t->ns += now_ns() - from;
     t->steps += repeats;
     t->stores += repeats * w->stores_each;

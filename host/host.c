@@ -1,5 +1,5 @@
 /* Runs four instructions to their end, looks at what they left, and walks back to the start; then a card
- * that writes itself, and the image written as a dump. */
+ * that writes itself, a loop that goes round a small journal, and the image written as a dump. */
 #include "argolythe.h"
 #include <stdio.h>
 #include <string.h>
@@ -14,13 +14,19 @@ static uint8_t image[ARGOLYTHE_GROUP] = {
     [0x20] =
     0x25, 0x00, 0x01, 0x00, 0x26, 0x11, /* 0020  MOVE 1 byte from pad >11 to GROM >0026 */
     0x92, 0x10,                         /* 0026  DEC  pad >10 */
+    [0x30] =
+    0x90, 0x12,             /* 0030  INC  pad >12 */
+    0x05, 0x00, 0x30,       /* 0032  B    >0030 */
 };
 static uint8_t pad[ARGOLYTHE_PAD];
 static uint8_t vdp[ARGOLYTHE_VDP];
 static uint8_t reg[ARGOLYTHE_REG];
 static uint32_t journal[64];
+static size_t journal_len = 64;
 static uint16_t pc;
 static size_t used;
+static uint8_t ring;     /* 1 for a journal that drops its oldest steps */
+static size_t place;     /* of its oldest word */
 static uint8_t writable; /* bit 0 for group 0, the only one here */
 
 static int wrong; /* how many things were not as expected */
@@ -38,12 +44,14 @@ static void keep(const uint64_t *out)
 {
     pc = (uint16_t)out[ARGOLYTHE_OUT_PC];
     used = (size_t)out[ARGOLYTHE_OUT_USED];
+    place = (size_t)out[ARGOLYTHE_OUT_PLACE];
 }
 
 static uint8_t run(uint32_t n, uint64_t *out)
 {
     uint8_t answer = argolythe_run(image, sizeof image, pad, sizeof pad, vdp, sizeof vdp,
-                                   reg, sizeof reg, journal, 64, pc, used, writable, n, out);
+                                   reg, sizeof reg, journal, journal_len, pc, used, ring, place,
+                                   writable, n, out);
     keep(out);
     return answer;
 }
@@ -51,7 +59,8 @@ static uint8_t run(uint32_t n, uint64_t *out)
 static uint8_t step(uint64_t *out)
 {
     uint8_t answer = argolythe_step(image, sizeof image, pad, sizeof pad, vdp, sizeof vdp,
-                                    reg, sizeof reg, journal, 64, pc, used, writable, out);
+                                    reg, sizeof reg, journal, journal_len, pc, used, ring, place,
+                                    writable, out);
     keep(out);
     return answer;
 }
@@ -59,7 +68,8 @@ static uint8_t step(uint64_t *out)
 static uint8_t step_back(uint64_t *out)
 {
     uint8_t answer = argolythe_step_back(image, sizeof image, pad, sizeof pad, vdp, sizeof vdp,
-                                         reg, sizeof reg, journal, 64, pc, used, writable, out);
+                                         reg, sizeof reg, journal, journal_len, pc, used, ring, place,
+                                         writable, out);
     keep(out);
     return answer;
 }
@@ -161,6 +171,39 @@ static void a_card_that_writes_itself(void)
            "the DEC is back");
 }
 
+/* A thousand steps in seven words, which hold the last three of them. */
+static void a_loop_in_a_ring(void)
+{
+    uint64_t out[ARGOLYTHE_OUTS];
+    journal_len = 7; /* INC takes three words, B two */
+    used = 0;
+    pc = 0x0030;
+    uint8_t answer = run(1000, out);
+    printf("A plain journal of 7 words ends a run of 1000 steps after %d, with %d (10: no word left).\n",
+           (int)out[ARGOLYTHE_OUT_STEPS], answer);
+    expect(answer == ARGOLYTHE_NO_ROOM && out[ARGOLYTHE_OUT_STEPS] == 2, "2 steps");
+
+    used = 0; /* the mode is chosen while the journal is empty */
+    place = 0;
+    ring = 1;
+    answer = run(1000, out);
+    printf("As a ring it lets them all be done (%d): %d words are kept, from place %d on, and pad >12 holds %02X.\n",
+           answer, (int)used, (int)place, (unsigned)see(ARGOLYTHE_SEE_CPU, 0x12));
+    expect(answer == ARGOLYTHE_DONE && out[ARGOLYTHE_OUT_STEPS] == 1000, "1000 steps");
+    expect(out[ARGOLYTHE_OUT_STORES] == 1500 && see(ARGOLYTHE_SEE_CPU, 0x12) == 0xF5, "501 times INC, modulo 256");
+    expect(used == 7, "B, INC and B are kept");
+
+    int back = 0;
+    while ((answer = step_back(out)) == ARGOLYTHE_DONE)
+        back += 1;
+    printf("%d steps can be taken back, then the answer is %d; pad >12 holds %02X.\n", back, answer,
+           (unsigned)see(ARGOLYTHE_SEE_CPU, 0x12));
+    expect(back == 3 && answer == ARGOLYTHE_NO_RECORD && used == 0, "these three, and no more");
+    expect(pc == 0x0032 && see(ARGOLYTHE_SEE_CPU, 0x12) == 0xF4, "as it was before them");
+    ring = 0;
+    journal_len = 64;
+}
+
 /* The image as a dump, read back; and a dump whose third line names an address twice. */
 static void dump_and_back(void)
 {
@@ -190,6 +233,7 @@ int main(void)
     beyond_the_image();
     back_to_the_start();
     a_card_that_writes_itself();
+    a_loop_in_a_ring();
     dump_and_back();
     printf(wrong ? "Something was not as expected.\n" : "All as expected.\n");
     return wrong ? 1 : 0;

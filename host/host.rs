@@ -4,13 +4,15 @@ extern "C" {
     fn argolythe_step(
         image: *mut u8, image_len: usize, pad: *mut u8, pad_len: usize,
         vdp: *mut u8, vdp_len: usize, reg: *mut u8, reg_len: usize,
-        journal: *mut u32, journal_len: usize, pc: u16, used: usize, writable: u8, out: *mut u64,
+        journal: *mut u32, journal_len: usize, pc: u16, used: usize,
+        ring: u8, place: usize, writable: u8, out: *mut u64,
     ) -> u8;
     #[rustfmt::skip]
     fn argolythe_step_back(
         image: *mut u8, image_len: usize, pad: *mut u8, pad_len: usize,
         vdp: *mut u8, vdp_len: usize, reg: *mut u8, reg_len: usize,
-        journal: *mut u32, journal_len: usize, pc: u16, used: usize, writable: u8, out: *mut u64,
+        journal: *mut u32, journal_len: usize, pc: u16, used: usize,
+        ring: u8, place: usize, writable: u8, out: *mut u64,
     ) -> u8;
 }
 
@@ -22,26 +24,29 @@ struct Machine {
     journal: Vec<u32>,
     pc: u16,
     used: usize,
+    ring: u8,     // 0: a plain journal
+    place: usize, // of a ring's oldest word
     writable: u8, // bit g for group g
 }
 
 impl Machine {
     // What a call leaves is where the next one starts.
-    fn keep(&mut self, out: [u64; 5]) {
+    fn keep(&mut self, out: [u64; 6]) {
         self.pc = out[0] as u16;
         self.used = out[1] as usize;
+        self.place = out[5] as usize;
     }
 
     fn step(&mut self) -> u8 {
-        let mut out = [0; 5];
+        let mut out = [0; 6];
         // Each pointer goes with its own length, and distinct fields do not overlap.
         #[rustfmt::skip]
         let answer = unsafe {
             argolythe_step(
                 self.image.as_mut_ptr(), self.image.len(), self.pad.as_mut_ptr(), self.pad.len(),
                 self.vdp.as_mut_ptr(), self.vdp.len(), self.reg.as_mut_ptr(), self.reg.len(),
-                self.journal.as_mut_ptr(), self.journal.len(), self.pc, self.used, self.writable,
-                out.as_mut_ptr(),
+                self.journal.as_mut_ptr(), self.journal.len(), self.pc, self.used,
+                self.ring, self.place, self.writable, out.as_mut_ptr(),
             )
         };
         self.keep(out);
@@ -49,15 +54,15 @@ impl Machine {
     }
 
     fn step_back(&mut self) -> u8 {
-        let mut out = [0; 5];
+        let mut out = [0; 6];
         // As above.
         #[rustfmt::skip]
         let answer = unsafe {
             argolythe_step_back(
                 self.image.as_mut_ptr(), self.image.len(), self.pad.as_mut_ptr(), self.pad.len(),
                 self.vdp.as_mut_ptr(), self.vdp.len(), self.reg.as_mut_ptr(), self.reg.len(),
-                self.journal.as_mut_ptr(), self.journal.len(), self.pc, self.used, self.writable,
-                out.as_mut_ptr(),
+                self.journal.as_mut_ptr(), self.journal.len(), self.pc, self.used,
+                self.ring, self.place, self.writable, out.as_mut_ptr(),
             )
         };
         self.keep(out);
@@ -74,6 +79,8 @@ fn main() {
         journal: vec![0; 64],
         pc: 0,
         used: 0,
+        ring: 0,
+        place: 0,
         writable: 1,
     };
     m.image[..3].copy_from_slice(&[0xBE, 0x10, 0x2A]); // ST >2A to pad >10

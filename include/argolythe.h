@@ -63,8 +63,8 @@ enum argolythe_answer {
     ARGOLYTHE_OFF_IMAGE = 6,       /* GROM address beyond the image */
     ARGOLYTHE_OFF_STACK = 7,       /* stack pointer out of its area */
     ARGOLYTHE_FORMAT_TOO_LONG = 8, /* a 16,385th format code in one FMT */
-    ARGOLYTHE_NO_ROOM = 10,        /* no journal word left */
-    ARGOLYTHE_WRONG_LENGTH = 11,   /* a lent part has a wrong length, or used exceeds the journal */
+    ARGOLYTHE_NO_ROOM = 10,        /* no journal word left; in a ring: one step needs more than all of it */
+    ARGOLYTHE_WRONG_LENGTH = 11,   /* a lent part has a wrong length, or used or a ring's place is past the journal */
     ARGOLYTHE_NO_RECORD = 12,      /* step_back finds no sound record */
     ARGOLYTHE_OFF_REGISTERS = 13,  /* VDP register above 7 */
     ARGOLYTHE_BAD_RECORD = 20,     /* a dump: form, sum, type, address beyond the image, or more after the end */
@@ -75,7 +75,7 @@ enum argolythe_answer {
     ARGOLYTHE_OUT_SHORT = 31       /* output too short */
 };
 
-/* ---- what comes out: five numbers, whatever the answer */
+/* ---- what comes out: six numbers, whatever the answer */
 
 enum argolythe_out {
     ARGOLYTHE_OUT_PC = 0,      /* pc for the next call; that of this call if a step was refused */
@@ -83,7 +83,8 @@ enum argolythe_out {
     ARGOLYTHE_OUT_STEPS = 2,   /* how many steps were done, or taken back */
     ARGOLYTHE_OUT_STORES = 3,  /* how many bytes these steps stored; 0 for a step back */
     ARGOLYTHE_OUT_ADDRESS = 4, /* the address that was turned down, see below */
-    ARGOLYTHE_OUTS = 5
+    ARGOLYTHE_OUT_PLACE = 5,   /* place of the oldest kept journal word for the next call */
+    ARGOLYTHE_OUTS = 6
 };
 
 /* ARGOLYTHE_OUT_ADDRESS is, with answer 4, the pad offset that was turned down, or a format operand's
@@ -93,14 +94,28 @@ enum argolythe_out {
 /* ---- the calls
  *
  * image, pad, vdp, reg and journal are each a pointer and a length in elements. pc is the GROM
- * address of the next instruction. used says how many words of the journal are in use, from its
- * start: 0 for an empty one, and then what the last call left in out. writable names the groups of
- * the image that a program may write, bit g for the group at g times >2000: 0 for cartridges that
- * cannot be written. A group that the image does not have may be named. Calls on one journal want
- * the same groups, since a step back puts nothing back in others and answers 12. The host may write
- * pad, vdp, reg and the image between calls; a step back then puts back the bytes that its step had
- * found. A call that answers 11 or 12 touches only out. A refused step puts all back, and zeroes the
- * journal words that it had begun to use. */
+ * address of the next instruction. used says how many words of the journal are in use: 0 for an
+ * empty one, and then what the last call left in out. writable names the groups of the image that a
+ * program may write, bit g for the group at g times >2000: 0 for cartridges that cannot be written. A
+ * group that the image does not have may be named. Calls on one journal want the same groups, since a
+ * step back puts nothing back in others and answers 12. The host may write pad, vdp, reg and the image
+ * between calls; a step back then puts back the bytes that its step had found. A call that answers 11
+ * or 12 touches only out. A refused step puts all back, and zeroes the journal words that it had begun
+ * to use.
+ *
+ * ring says how the journal is used; 0 is no, any other value yes. It is chosen while the journal is
+ * empty, and kept: no call can tell in which way the words were laid.
+ *
+ * - Without, the words in use stand from the journal's start. A step that finds no word left answers
+ *   10. place is not looked at, and comes back as it was lent.
+ * - With, they stand from place on, the oldest first, and go on at the journal's start after its last
+ *   word. A caller begins with used 0 and place 0, and hands back both as the last call left them;
+ *   place is below the journal's length, or 0, else the answer is 11. When a step needs a word and none
+ *   is left, the oldest steps are dropped, each as a whole and as few as will do, so that a long run
+ *   goes on. 10 is then answered only if one step alone needs more than the whole journal. Each step still kept can be taken back, and the state before it is exact; past the oldest
+ *   of them a step back answers 12. Words of dropped steps hold 0 until they are used again. Lost steps
+ *   stay lost, also if the step that needed their room is refused: used and place then say what is
+ *   left. */
 
 /* One step. */
 uint8_t argolythe_step(uint8_t *image, size_t image_len,
@@ -108,7 +123,7 @@ uint8_t argolythe_step(uint8_t *image, size_t image_len,
                        uint8_t *vdp, size_t vdp_len,
                        uint8_t *reg, size_t reg_len,
                        uint32_t *journal, size_t journal_len,
-                       uint16_t pc, size_t used, uint8_t writable,
+                       uint16_t pc, size_t used, uint8_t ring, size_t place, uint8_t writable,
                        uint64_t out[ARGOLYTHE_OUTS]);
 
 /* Up to n steps, to the first answer other than 0. The numbers are those of the steps done before
@@ -118,7 +133,7 @@ uint8_t argolythe_run(uint8_t *image, size_t image_len,
                       uint8_t *vdp, size_t vdp_len,
                       uint8_t *reg, size_t reg_len,
                       uint32_t *journal, size_t journal_len,
-                      uint16_t pc, size_t used, uint8_t writable, uint32_t n,
+                      uint16_t pc, size_t used, uint8_t ring, size_t place, uint8_t writable, uint32_t n,
                       uint64_t out[ARGOLYTHE_OUTS]);
 
 /* The newest step in the journal, taken back: 0, 11 or 12. */
@@ -127,7 +142,7 @@ uint8_t argolythe_step_back(uint8_t *image, size_t image_len,
                             uint8_t *vdp, size_t vdp_len,
                             uint8_t *reg, size_t reg_len,
                             uint32_t *journal, size_t journal_len,
-                            uint16_t pc, size_t used, uint8_t writable,
+                            uint16_t pc, size_t used, uint8_t ring, size_t place, uint8_t writable,
                             uint64_t out[ARGOLYTHE_OUTS]);
 
 enum argolythe_memory { ARGOLYTHE_SEE_CPU = 0, ARGOLYTHE_SEE_VDP = 1 };

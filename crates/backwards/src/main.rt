@@ -107,6 +107,8 @@ fn walk(image: &mut [u8; 8192]) {
     let start = At {
         pc: 0,
         used: 0,
+        ring: false,
+        place: 0,
         writable: 0,
     };
     let r = bench::runs::run(

@@ -2,17 +2,16 @@
 use mathlib.Core.Path.{_≡_, refl, _∙_, ap, ap₂, sym, subst}
 use mathlib.Core.Bool.{Bool, true, false}
 use mathlib.Core.List.{List}
-use Prim.Native.Nat.{ℕ, suc, _+_, _-_, _≤_, _<_}
+use Prim.Native.Nat.{ℕ, suc, _+_, _-_, _*_, _≤_, _<_}
 use native.Mathlib.Omega.{arith}
 use lib.ListN.{length}
-use Rattle.rules.specs.Machine.{mem, State}
+use Rattle.rules.specs.Machine.{State}
 use Rattle.rules.specs.Answers.{Answer, saying, well, answerFor, wrongLength}
 use Rattle.rules.specs.Calls.{fits, Reply, left, step, stepStores, made, Report, report, steps, run}
-use Rattle.rules.specs.Demands.{Good, Accepted}
-use Rattle.rules.proofs.Stores.{used-after}
-use Rattle.rules.proofs.Steps.{Stepped}
-use Rattle.rules.proofs.Fits.{fits-after}
-use Rattle.rules.proofs.History.{stepped}
+use Rattle.rules.specs.Demands.{Good, Accepted, Demand2}
+use Rattle.rules.proofs.Replies.{demand2}
+use Rattle.rules.proofs.Fits.{fits-used, fits-words}
+use Rattle.rules.proofs.History.{stepped, fits-after}
 use Rattle.bench.specs.declared.at.At.{At}
 use Rattle.bench.specs.declared.walk.Reply as walk
 use Rattle.bench.specs.declared.runs.Report as runs
@@ -34,18 +33,18 @@ pub record Underway (n : ℕ) (s₀ : State) (k c : ℕ) (s : State) : Type 0 wh
   pub fit : fits (s .mem) ≡ true
   pub good : Good s
   pub made : k ≤ n
-  pub stored : c ≤ s .mem .used
+  pub stored : c ≤ k * 1048576
 
-pub sets-out : {n : ℕ} {i p v g j : List ℕ} {at : At} → fits (stateAt i p v g j at .mem) ≡ true → at .pc < 65536 → at .writable < 256 → AreBytes i → AreBytes p → AreBytes v
+pub sets-out : {n : ℕ} {i p v g : List ℕ} (j : List ℕ) {at : At} → fits (stateAt i p v g j at .mem) ≡ true → at .pc < 65536 → at .writable < 256 → AreBytes i → AreBytes p → AreBytes v
     → AreBytes g
     → Underway n (stateAt i p v g j at) 0 0 (stateAt i p v g j at)
-sets-out {n} {i} {p} {v} {g} {j} {at} f l w d a b c =
+sets-out {n} {i} {p} {v} {g} j {at} f l w d a b c =
     let r : Report = steps n (stateAt i p v g j at) in
     let all : n - 0 ≡ n = omega arith in
     record {
       whole = rw all (recount (r .answer) (r .end) (omega arith) (omega arith));
       fit = f;
-      good = record { address = l; bytes = bytes-of (mem i (at .writable) p v g j (at .used)) w d a b c };
+      good = record { address = l; bytes = bytes-of (stateAt i p v g j at .mem) w d a b c };
       made = omega arith;
       stored = omega arith;
     }
@@ -59,12 +58,15 @@ module _ {n : ℕ} {s₀ : State} {k c : ℕ} {s : State} {x : Returned walk.Rep
   count : x .result .answer ≡ 0 → x .result .stores ≡ length (stepStores s)
   count z = counts call ∙ ap (made s) (accepts call z)
 
-  takes : x .result .answer ≡ 0 → Stepped s (stepStores s) (leaves x)
-  takes z = subst (λ (q : Reply). Stepped s (stepStores s) (left q)) (accepts call z) (stepped s (u .good) (subst Accepted (sym (accepts call z)) tt))
+  done-it : x .result .answer ≡ 0 → Accepted (step s)
+  done-it z = subst Accepted (sym (accepts call z)) tt
 
-  -- its mark and its stores are the words that it took
-  pub grew : x .result .answer ≡ 0 → x .result .at .used ≡ suc (s .mem .used) + x .result .stores
-  grew z = used-after (takes z .makes) ∙ ap (λ (y : ℕ). suc (s .mem .used) + y) (sym (count z))
+  -- a journal has room for its stores
+  pub few : x .result .answer ≡ 0 → x .result .stores ≤ 1048576
+  few z =
+      let d : Demand2 s (leaves x) (length (stepStores s)) = demand2 s (leaves x) (accepts call z) in
+      let f : fits (leaves x .mem) ≡ true = subst (λ (q : Reply). fits (left q .mem) ≡ true) (accepts call z) (fits-after s (u .good) (done-it z)) in
+      omega (arith, d .used, count z, fits-used (leaves x .mem) f, fits-words (leaves x .mem) f)
 
   -- it was done: the rest of the run starts where it ended
   pub goes-on : k < n → x .result .answer ≡ 0 → Underway n s₀ (k + 1) (c + x .result .stores) (leaves x)
@@ -74,10 +76,10 @@ module _ {n : ℕ} {s₀ : State} {k c : ℕ} {s : State} {x : Returned walk.Rep
       let more : n - k ≡ suc (n - (k + 1)) = omega arith in
       record {
         whole = recount (after .answer) (after .end) (omega arith) (omega (arith, count z)) ∙ (rw (more, accepts call z) at (u .whole));
-        fit = fits-after (takes z) (u .fit);
-        good = takes z .good;
+        fit = subst (λ (q : Reply). fits (left q .mem) ≡ true) (accepts call z) (fits-after s (u .good) (done-it z));
+        good = subst (λ (q : Reply). Good (left q)) (accepts call z) (stepped s (u .good) (done-it z) .good);
         made = omega arith;
-        stored = omega (arith, grew z, u .stored);
+        stored = omega (arith, few z, u .stored);
       }
 
   -- it was refused: the run is over

@@ -8,28 +8,36 @@ use lib.Dec.{eqb, leb}
 use lib.ListN.{length, take, drop}
 use denote.Ref.{RefT, now}
 use borrow.Author.Tests.{ne-eqb, eq-eqb, leb-true, leb-false, eqb-true}
-use Rattle.rules.specs.Machine.{pick, _also_, cpu, vdp, register, size, reach, areaOf, mem, area, State}
+use Rattle.rules.specs.Machine.{pick, _also_, cpu, vdp, register, size, reach, areaOf, Mem, area, State, state, atRest}
 use Rattle.rules.specs.Answers.{answerFor, wrongLength, noRecord}
-use Rattle.rules.specs.Journal.{undo}
-use Rattle.rules.specs.Calls.{partsFit, fits, Find, scan, backTo, fitBack, stepBack, Memory, kindOf, viewed, view}
-use Rattle.rules.proofs.Fits.{both}
-use Rattle.machine.specs.Meaning.{foundAt}
+use Rattle.rules.specs.Journal.{undo, turned}
+use Rattle.rules.specs.Calls.{partsFit, fits, done, Find, scan, backTo, fitBack, stepBack, Memory, kindOf, viewed, view}
+use Rattle.rules.proofs.Tests.{both}
+use Rattle.ring.specs.declared.book.Book.{Book}
+use Rattle.ring.proofs.Turned.{length-turned}
+use Rattle.machine.specs.Meaning.{memOf, foundAt}
 use Rattle.bench.specs.declared.at.At.{At}
 use Rattle.bench.specs.declared.walk.Reply as walk
-use Rattle.bench.specs.Meaning.{stateAt, Fit, Returned, returned, outcome, replies, told, refusal, undoing, backing, Tells, part}
+use Rattle.bench.specs.Meaning.{bookAt, rests, stateAt, Fit, Returned, returned, outcome, replies, told, refusal, undoing, backing, Tells, part}
 
 -- ---- a step back
 
-pub back-lost : {i p v g j : List ℕ} {at : At} {n : ℕ} (pc : ℕ) → foundAt n pc ≡ scan (areaOf (length i) (at .writable)) (at .used) j → n ≡ 0
-    → Tells told undoing (stateAt i p v g j at) (returned i p v g j (refusal (answerFor noRecord) at))
-unfolding fitBack replies foundAt
-back-lost {i = i} {p = p} {v = v} {g = g} {j = j} {at = at} pc e h = record { is = ap (λ (f : Find). outcome (backTo f (stateAt i p v g j at)) 0) (rw h at e) }
+module _ {i p v g : List ℕ} (j : List ℕ) {at : At} {b : Book} (q : b ≡ bookAt at) where
+  pub back-lost : {n : ℕ} (pc : ℕ) → foundAt n pc ≡ scan (areaOf (length i) (at .writable)) (b .used) (turned (b .ring) (b .place) j) → n ≡ 0
+      → Tells told undoing (stateAt i p v g j at) (returned i p v g j (refusal (answerFor noRecord) at))
+  unfolding fitBack replies foundAt
+  back-lost pc e h = record { is = ap (λ (f : Find). outcome (backTo f (stateAt i p v g j at)) 0) (rw (h, q) at e) }
 
-pub back-found : {w : ℕ} {i p v g j : List ℕ} {s : State} {n pc u : ℕ} → foundAt n pc ≡ scan (area (s .mem)) (s .mem .used) (s .mem .journal) → (n ≡ 0 → ⊥)
-    → mem i w p v g j u ≡ undo n (s .mem)
-    → Tells told undoing s (returned i p v g j (record { answer = 0; address = 0; stores = 0; at = record { pc = pc; used = u; writable = w } }))
-unfolding fitBack replies foundAt
-back-found {s = s} {n = n} e h k = record { is = rw k (ap (λ (f : Find). outcome (backTo f s) 0) (rw (ne-eqb n 0 h) at e)) }
+  pub back-found : {w : ℕ} {i₁ p₁ v₁ g₁ j₁ : List ℕ} {n pc : ℕ} {c : Book}
+      → foundAt n pc ≡ scan (areaOf (length i) (at .writable)) (b .used) (turned (b .ring) (b .place) j) → (n ≡ 0 → ⊥)
+      → memOf i₁ w p₁ v₁ g₁ j₁ c ≡ undo n (memOf i (at .writable) p v g j b)
+      → Tells told undoing (stateAt i p v g j at) (returned i₁ p₁ v₁ g₁ j₁ (record { answer = 0; address = 0; stores = 0; at = rests pc c w }))
+  unfolding fitBack replies foundAt
+  back-found {n = n} {pc = pc} e h k =
+      record {
+        is = ap (λ (m : Mem). outcome (done (state pc (atRest m))) 0) (rw q at k)
+            ∙ ap (λ (f : Find). outcome (backTo f (stateAt i p v g j at)) 0) (rw (ne-eqb n 0 h, q) at e);
+      }
 
 pub back-unfit : {i p v g j : List ℕ} {at : At} {t : Bool} → t ≡ fits (stateAt i p v g j at .mem) → t ≡ false
     → Tells told backing (stateAt i p v g j at) (returned i p v g j (refusal (answerFor wrongLength) at))
@@ -49,6 +57,10 @@ fitting {p} {v} {g} {j} {at} h =
     let vrams : (eqb (length (now v)) (size vdp) ≡ true) × _ = both (pads .1) in
     let regss : (eqb (length (now g)) (size register) ≡ true) × _ = both (vrams .1) in
     record { pad = eqb-true _ _ (pads .0); vram = eqb-true _ _ (vrams .0); regs = eqb-true _ _ (regss .0); used = leb-true _ _ (both (regss .1) .1) }
+
+-- the same of a machine
+pub fitting-at : (i : List ℕ) {p v g j : RefT (List ℕ)} {at : At} → fits (stateAt i (now p) (now v) (now g) (now j) at .mem) ≡ true → Fit p v g j at
+fitting-at i {j = j} {at = at} h = fitting (both (both (rw (length-turned (at .ring) (at .place) (now j)) at h) .1) .0)
 
 -- ---- the viewer
 

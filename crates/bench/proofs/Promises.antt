@@ -12,11 +12,11 @@ use Rattle.rules.proofs.Named.{Answered, named-run}
 use Rattle.rules.proofs.Struck.{listed-not-9, answered-not-9, back-not-9}
 use Rattle.rules.proofs.Replies as replies-of
 use Rattle.rules.proofs.Run as run-of
-use Rattle.bench.specs.declared.at.At.{At}
+use Rattle.ring.proofs.Turned.{turned-back}
 use Rattle.bench.specs.declared.walk.Reply as walk
 use Rattle.bench.specs.declared.runs.Report as runs
-use Rattle.bench.specs.Meaning.{Returned, returnedOf, leaves, told, stepping, backing, reported, Tells}
-use Rattle.bench.proofs.Replies.{accepts, refuses, counts, same-told}
+use Rattle.bench.specs.Meaning.{Returned, returned, leaves, told, stepping, backing, reported, Tells}
+use Rattle.bench.proofs.Replies.{accepts, refuses, counts, atOf, returnedOf, same-told}
 
 -- ---- Each contract determines what it speaks of: two outcomes that it allows are equal, every lent byte and the result.
 
@@ -28,12 +28,15 @@ module _ {s : State} where
   step-back-determined e k = same-told (e .is ∙ sym (k .is))
 
   pub run-determined : (n : ℕ) {x y : Returned runs.Report} → Tells reported (run n) s x → Tells reported (run n) s y → x ≡ y
-  run-determined n e k = ap read (e .is ∙ sym (k .is))
+  run-determined n {x} {y} e k = sym (read-reported x) ∙ ap read (e .is ∙ sym (k .is)) ∙ read-reported y
     where
       read : Report → Returned runs.Report
       read r =
-          let at : At = record { pc = r .end .pc; used = r .end .mem .used; writable = r .end .mem .groups } in
-          returnedOf (r .end .mem) (record { answer = r .answer .number; address = r .answer .address; steps = r .steps; stores = r .stores; at = at })
+          returnedOf (r .end .mem) (record { answer = r .answer .number; address = r .answer .address; steps = r .steps; stores = r .stores; at = atOf (r .end) })
+
+      read-reported : (x : Returned runs.Report) → read (reported x) ≡ x
+      read-reported x =
+          ap (λ (j : List ℕ). returned (x .image) (x .pad) (x .vram) (x .regs) j (x .result)) (turned-back (x .result .at .ring) (x .result .at .place) (x .journal))
 
 pub view-determined : (w : Memory) (p v : List ℕ) (at len : ℕ) {x y : List ℕ} → x ≡ view w p v at len → y ≡ view w p v at len → x ≡ y
 view-determined w p v at len e k = e ∙ sym k
@@ -41,13 +44,13 @@ view-determined w p v at len e k = e ∙ sym k
 -- ---- a step
 
 module _ {s : State} {x : Returned walk.Reply} (e : Tells told stepping s x) where
-  -- Demand 1. A refused step: its answer is one of the listed refusals; pc, image, pad, VDP RAM, registers and used are as before it; the journal words that it
-  -- had begun to use are 0, and all others as before. It reports no stores.
+  -- Demand 1. A refused step: its answer is one of the listed refusals; pc, image, pad, VDP RAM and registers are as before it; the journal words that it
+  -- had begun to use are 0, and so are those of the steps that it dropped; all others are as before. It reports no stores.
   pub demand1 : (x .result .answer ≡ 0 → ⊥) → Demand1 s (saying (x .result .answer) (x .result .address)) (leaves x) × (x .result .stores ≡ 0)
   demand1 h = (replies-of.demand1 s (saying (x .result .answer) (x .result .address)) (leaves x) (refuses e h), counts e ∙ ap (made s) (refuses e h))
 
-  -- Demand 2. An accepted step: pc and memories are those that the rules give, the count is the number of stores in the rules' list, and the journal has
-  -- grown by a word for the step and one for each store.
+  -- Demand 2. An accepted step: pc and memories are those that the rules give, the count is the number of stores in the rules' list, and what is
+  -- kept of the journal has grown by a word for the step and one for each store.
   pub demand2 : x .result .answer ≡ 0 → Demand2 s (leaves x) (x .result .stores)
   demand2 z = rw (counts e ∙ ap (made s) (accepts e z)) (replies-of.demand2 s (leaves x) (accepts e z))
 

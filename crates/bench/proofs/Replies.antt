@@ -3,11 +3,14 @@ use mathlib.Core.Path.{_≡_, refl, _∙_, ap, ap₂, sym}
 use Prim.Native.Nat.{ℕ, zero, suc}
 use native.Mathlib.Omega.{arith}
 use borrow.Author.Tests.{ne-eqb}
-use Rattle.rules.specs.Machine.{State}
+use mathlib.Core.List.{List}
+use Rattle.rules.specs.Machine.{Mem, State}
 use Rattle.rules.specs.Answers.{saying}
 use Rattle.rules.specs.Calls.{done, refused, answer, left}
+use Rattle.ring.proofs.Turned.{unturned, turned-back}
+use Rattle.bench.specs.declared.at.At.{At}
 use Rattle.bench.specs.declared.walk.Reply as walk
-use Rattle.bench.specs.Meaning.{Returned, returnedOf, Outcome, replies, leaves, told, Tells}
+use Rattle.bench.specs.Meaning.{Returned, returned, Outcome, replies, leaves, told, Tells}
 
 said-answer : (a d : ℕ) (s : State) → answer (replies (saying a d) s) .number ≡ a
 unfolding replies
@@ -42,8 +45,14 @@ module _ {f : State → Outcome} {s : State} {x : Returned walk.Reply} (e : Tell
   counts = ap (λ (o : Outcome). o .stores) (e .is)
 
 -- what is returned can be read off what it tells
+abbrev pub atOf : State → At
+atOf s = record { pc = s .pc; used = s .mem .used; ring = s .mem .ring; place = s .mem .place; writable = s .mem .groups }
+
+abbrev pub returnedOf : {A : Type 0} → Mem → A → Returned A
+returnedOf m r = returned (m .image) (m .pad) (m .vram) (m .regs) (unturned (m .ring) (m .place) (m .journal)) r
+
 made-of : ℕ → State → ℕ → ℕ → Returned walk.Reply
-made-of a s d n = returnedOf (s .mem) (record { answer = a; address = d; stores = n; at = record { pc = s .pc; used = s .mem .used; writable = s .mem .groups } })
+made-of a s d n = returnedOf (s .mem) (record { answer = a; address = d; stores = n; at = atOf s })
 
 read : Outcome → Returned walk.Reply
 read o = made-of (answer (o .reply) .number) (left (o .reply)) (o .address) (o .stores)
@@ -54,6 +63,7 @@ read-told x =
     let a : ℕ = x .result .answer in
     let d : ℕ = x .result .address in
     ap₂ (λ (b : ℕ) (s : State). made-of b s d (x .result .stores)) (said-answer a d (leaves x)) (said-state a d (leaves x))
+    ∙ ap (λ (j : List ℕ). returned (x .image) (x .pad) (x .vram) (x .regs) j (x .result)) (turned-back (x .result .at .ring) (x .result .at .place) (x .journal))
 
 pub same-told : {x y : Returned walk.Reply} → told x ≡ told y → x ≡ y
 same-told {x} {y} e = sym (read-told x) ∙ ap read e ∙ read-told y

@@ -2,24 +2,26 @@
 use mathlib.Core.Path.{_≡_, refl, _∙_, ap, ap₂, sym, subst}
 use mathlib.Core.Bool.{Bool, true, false}
 use mathlib.Core.List.{List, [], _∷_, _++_}
-use Prim.Native.Nat.{ℕ, zero, suc, _+_, _-_}
+use Prim.Native.Nat.{ℕ, zero, suc, _+_, _-_, _<_}
 use native.Mathlib.Omega.{arith}
 use lib.Dec.{eqb}
+use lib.ListN.{length, length-append, length-map}
 use borrow.Author.Tests.{ne-eqb}
 use Rattle.rules.specs.Machine.{pick, State}
 use Rattle.rules.specs.Answers.{Answer, saying}
-use Rattle.rules.specs.Calls.{fits, Reply, done, refused, left, step, Report, run}
-use Rattle.rules.specs.Demands.{Good, Listed, Accepted, Refused, Op, forth, aback, reply, play, tally, kept, forward, AllAccepted, total, Ends, full, cut, Demand3}
+use Rattle.rules.specs.Journal.{wordOf}
+use Rattle.rules.specs.Calls.{fits, Reply, done, refused, left, step, stepStores, stepBack, Report, run}
+use Rattle.rules.specs.Demands.{Good, Listed, Accepted, Refused, Op, forth, aback, reply, play, forward, AllAccepted, recordOf, records, total, Past, past, tally, history, Ends, full, cut, Demand1, Demand2, Demand3}
+use Rattle.rules.proofs.Forget.{drops-plain}
 use Rattle.rules.proofs.Opcodes.{never-done}
 use Rattle.rules.proofs.Named.{NamedReply, named-step}
 use Rattle.rules.proofs.Fits.{step-unfit}
 use Rattle.rules.proofs.Replies as replies-of
-use Rattle.rules.proofs.Run.{used-run}
-use Rattle.rules.proofs.History as history
+use Rattle.rules.proofs.History as history-of
 use Rattle.bench.specs.declared.walk.Reply as walk
 use Rattle.bench.specs.declared.runs.Report as runs
 use Rattle.bench.specs.Meaning.{Returned, Outcome, replies, leaves, told, stepping, backing, reported, Tells}
-use Rattle.bench.specs.Promised.{Said, stepped, backed, ran, Called, no-call, then-step, then-back, then-run, Count, oneMore, oneLess, counts, countOf, Keeps}
+use Rattle.bench.specs.Promised.{Said, stepped, backed, ran, Called, no-call, then-step, then-back, then-run, Count, oneMore, oneLess, noMore, counts, countOf, forths, runOps, ops, allOps, pastOf, Keeps}
 use Rattle.bench.proofs.Replies.{says, accepts, refuses, leads}
 use Rattle.bench.proofs.Promises.{demand1, demand2, run-unfit, run-ends, step-back-refused}
 
@@ -29,140 +31,151 @@ play-on : (os ps : List Op) (s : State) → play (os ++ ps) s ≡ play ps (play 
 play-on [] ps s = refl
 play-on (o ∷ os) ps s = play-on os ps (left (reply o s))
 
-kept-on : (os ps : List Op) (s : State) (n : ℕ) → kept (os ++ ps) s n ≡ kept ps (play os s) (kept os s n)
-kept-on [] ps s n = refl
-kept-on (o ∷ os) ps s n = kept-on os ps (left (reply o s)) (tally o (reply o s) n)
+history-on : (s₀ : State) (os ps : List Op) (s : State) (h : Past) → history s₀ (os ++ ps) s h ≡ history s₀ ps (play os s) (history s₀ os s h)
+history-on s₀ [] ps s h = refl
+history-on s₀ (o ∷ os) ps s h = history-on s₀ os ps (left (reply o s)) (tally s₀ o s (reply o s) h)
 
--- from s, where n steps are kept, the rules' calls lead to t, where k are
-record Plays (s : State) (n : ℕ) (os : List Op) (t : State) (k : ℕ) : Type 0 where
+-- from s the rules' calls lead to t, and of n steps, accepted and not taken back, they make k
+record Plays (s₀ s : State) (n : ℕ) (os : List Op) (t : State) (k : ℕ) : Type 0 where
   leads : t ≡ play os s
-  keeps : k ≡ kept os s n
+  keeps : (h : Past) → h .steps ≡ n → history s₀ os s h .steps ≡ k
 
-on : {s t u : State} {n k m : ℕ} {os ps : List Op} → Plays s n os t k → Plays t k ps u m → Plays s n (os ++ ps) u m
-on {s} {t} {u} {n} {k} {m} {os} {ps} p q =
+on : {s₀ s t u : State} {n k m : ℕ} {os ps : List Op} → Plays s₀ s n os t k → Plays s₀ t k ps u m → Plays s₀ s n (os ++ ps) u m
+on {s₀} {s} {t} {os = os} {ps = ps} p q =
     record {
       leads = q .leads ∙ ap (play ps) (p .leads) ∙ sym (play-on os ps s);
-      keeps = q .keeps ∙ ap₂ (kept ps) (p .leads) (p .keeps) ∙ sym (kept-on os ps s n);
+      keeps = λ h e.
+          ap (λ (x : Past). x .steps) (history-on s₀ os ps s h) ∙ ap (λ (x : State). history s₀ ps x (history s₀ os s h) .steps) (sym (p .leads))
+          ∙ q .keeps (history s₀ os s h) (p .keeps h e);
     }
-
--- ---- a call in the words of the rules
-
--- so many steps
-abbrev forths : ℕ → List Op
-forths zero = []
-forths (suc n) = forths n ++ forth ∷ []
-
--- a run is the steps that it made, and where it was cut short one that was refused
-abbrev runOps : ℕ → ℕ → List Op
-runOps a k = forths k ++ pick (eqb a 0) [] (forth ∷ [])
-
-abbrev ops : Said → List Op
-ops (stepped r) = forth ∷ []
-ops (backed r) = aback ∷ []
-ops (ran r) = runOps (r .answer) (r .steps)
-
-abbrev pub allOps : List Said → List Op
-allOps [] = []
-allOps (a ∷ l) = allOps l ++ ops a
 
 -- ---- each call, by its contract
 
--- what a caller counts of an answer is what the rules keep
-tallies : (o : Op) (b : Bool) (a : Answer) (t : State) (c d : Count) → d .steps ≡ tally o (done t) (c .steps)
-    → (pick b d c) .steps ≡ tally o (pick b (done t) (refused a t)) (c .steps)
-tallies o true a t c d e = e
-tallies forth false a t c d e = refl
-tallies aback false a t c d e = refl
+-- what a caller counts of an answer is what the rules count
+tallies : (s₀ s : State) (o : Op) (b : Bool) (a : Answer) (t : State) (h : Past) (c d : Count) → tally s₀ o s (done t) h .steps ≡ d .steps → h .steps ≡ c .steps
+    → tally s₀ o s (pick b (done t) (refused a t)) h .steps ≡ (pick b d c) .steps
+tallies s₀ s o true a t h c d e z = e
+tallies s₀ s forth false a t h c d e z = z
+tallies s₀ s aback false a t h c d e z = z
 
-call-plays : (o : Op) {f : State → Outcome} {s : State} {x : Returned walk.Reply} (c d : Count) → Tells told f s x → f s .reply ≡ reply o s
-    → d .steps ≡ tally o (done (leaves x)) (c .steps) → Plays s (c .steps) (o ∷ []) (leaves x) ((pick (eqb (x .result .answer) 0) d c) .steps)
+call-plays : (s₀ : State) (o : Op) {f : State → Outcome} {s : State} {x : Returned walk.Reply} (c d : Count) → Tells told f s x → f s .reply ≡ reply o s
+    → ((h : Past) → h .steps ≡ c .steps → tally s₀ o s (done (leaves x)) h .steps ≡ d .steps)
+    → Plays s₀ s (c .steps) (o ∷ []) (leaves x) ((pick (eqb (x .result .answer) 0) d c) .steps)
 unfolding replies
-call-plays o {x = x} c d e q k =
+call-plays s₀ o {s = s} {x = x} c d e q k =
+    let a : Answer = saying (x .result .answer) (x .result .address) in
     record {
       leads = leads e ∙ ap left q;
-      keeps = tallies o (eqb (x .result .answer) 0) (saying (x .result .answer) (x .result .address)) (leaves x) c d k ∙ ap (λ (r : Reply). tally o r (c .steps)) (sym (says e) ∙ q);
+      keeps = λ h z.
+          ap (λ (r : Reply). tally s₀ o s r h .steps) (sym q ∙ says e) ∙ tallies s₀ s o (eqb (x .result .answer) 0) a (leaves x) h c d (k h z) z;
     }
 
 -- steps that are all accepted
-forths-play : (k : ℕ) {s : State} (n : ℕ) → AllAccepted k s → Plays s n (forths k) (forward k s) (n + k)
-forths-play zero n a = record { leads = refl; keeps = omega arith }
-forths-play (suc k) {s} n a =
+forths-play : (s₀ : State) (k : ℕ) {s : State} (n : ℕ) → AllAccepted k s → Plays s₀ s n (forths k) (forward k s) (n + k)
+forths-play s₀ zero n a = record { leads = refl; keeps = λ h e. omega arith }
+forths-play s₀ (suc k) {s} n a =
     let t : State = forward k s in
-    on (forths-play k n (a .0)) (record { leads = refl; keeps = go (step t) (a .1) })
+    on (forths-play s₀ k n (a .0)) (record { leads = refl; keeps = λ h e. go (step t) h e (a .1) })
   where
-    go : (r : Reply) → Accepted r → n + suc k ≡ tally forth r (n + k)
-    go (done u) b = omega arith
-    go (refused b u) b₂ = absurd b₂
+    go : (r : Reply) (h : Past) → h .steps ≡ n + k → Accepted r → tally s₀ forth (forward k s) r h .steps ≡ n + suc k
+    go (done u) h e b = omega arith
+    go (refused b u) h e b₂ = absurd b₂
 
-ends-play : {n : ℕ} {s : State} {r : Report} (m : ℕ) → Ends n s r → Plays s m (runOps (r .answer .number) (r .steps)) (r .end) (m + r .steps)
-ends-play {n} m (full a) = on (forths-play n m a) (record { leads = refl; keeps = refl })
-ends-play {s = s} m (cut {k} {a} {t} l h e) =
+ends-play : {n : ℕ} (s₀ : State) {s : State} {r : Report} (m : ℕ) → Ends n s r → Plays s₀ s m (runOps (r .answer .number) (r .steps)) (r .end) (m + r .steps)
+ends-play {n} s₀ m (full a) = on (forths-play s₀ n m a) (record { leads = refl; keeps = λ h e. e })
+ends-play s₀ {s} m (cut {k} {a} {t} l h e) =
     let f : Listed a = subst NamedReply e (named-step (forward k s)) in
     rw (ne-eqb (a .number) 0 (λ z. omega (arith, never-done (f .why), ap (λ (b : Answer). b .number) (f .is))))
-    (on (forths-play k m h) (record { leads = ap left (sym e); keeps = ap (λ (q : Reply). tally forth q (m + k)) (sym e) }))
+    (on (forths-play s₀ k m h) (record {
+      leads = ap left (sym e);
+      keeps = λ q z. ap (λ (r : Reply). tally s₀ forth (forward k s) r q .steps) e ∙ z;
+    }))
 
-run-plays : (n : ℕ) {s : State} {x : Returned runs.Report} (c : Count) → Tells reported (run n) s x
-    → Plays s (c .steps) (ops (ran (x .result))) (reported x .end) (counts (ran (x .result)) c .steps)
-run-plays n {s} {x} c e = go (fits (s .mem)) refl
+run-plays : (n : ℕ) (s₀ : State) {s : State} {x : Returned runs.Report} (c : Count) → Tells reported (run n) s x
+    → Plays s₀ s (c .steps) (ops (ran (x .result))) (reported x .end) (counts (ran (x .result)) c .steps)
+run-plays n s₀ {s} {x} c e = go (fits (s .mem)) refl
   where
     go : (b : Bool) → fits (s .mem) ≡ b
-        → Plays s (c .steps) (runOps (x .result .answer) (x .result .steps)) (reported x .end) (c .steps + x .result .steps)
-    go true f = ends-play (c .steps) (run-ends n e f)
-    go false f = subst (λ (r : Report). Plays s (c .steps) (runOps (r .answer .number) (r .steps)) (r .end) (c .steps + r .steps)) (sym (run-unfit n e f))
-        (record { leads = ap left (sym (step-unfit s f)); keeps = omega (arith, ap (λ (q : Reply). tally forth q (c .steps)) (step-unfit s f)) })
+        → Plays s₀ s (c .steps) (runOps (x .result .answer) (x .result .steps)) (reported x .end) (c .steps + x .result .steps)
+    go true f = ends-play s₀ (c .steps) (run-ends n e f)
+    go false f =
+        subst (λ (r : Report). Plays s₀ s (c .steps) (runOps (r .answer .number) (r .steps)) (r .end) (c .steps + r .steps)) (sym (run-unfit n e f))
+        (record {
+          leads = ap left (sym (step-unfit s f));
+          keeps = λ h z. ap (λ (q : Reply). tally s₀ forth s q h .steps) (step-unfit s f) ∙ (omega arith);
+        })
 
 -- ---- any sequence of them
 
-played : {s₀ s : State} {l : List Said} → Called s₀ l s → Plays s₀ 0 (allOps l) s (countOf l .steps)
-played no-call = record { leads = refl; keeps = refl }
-played (then-step {l} {x = x} h e) = on (played h) (call-plays forth (countOf l) (oneMore (x .result) (countOf l)) e refl refl)
-played (then-back {l} {x = x} h e) = on (played h) (call-plays aback (countOf l) (oneLess (x .result) (countOf l)) e refl refl)
-played (then-run {l} n h e) = on (played h) (run-plays n (countOf l) e)
+played : {s₀ s : State} {l : List Said} → Called s₀ l s → Plays s₀ s₀ 0 (allOps l) s (countOf l .steps)
+played no-call = record { leads = refl; keeps = λ h e. e }
+played {s₀} (then-step {l} {x = x} h e) =
+    let c : Count = countOf l in
+    on (played h) (call-plays s₀ forth (noMore (x .result) c) (oneMore (x .result) c) e refl (λ q z. ap suc z))
+played {s₀} (then-back {l} {x = x} h e) =
+    let c : Count = countOf l in
+    on (played h) (call-plays s₀ aback (noMore (x .result) c) (oneLess (x .result) c) e refl (λ q z. ap (λ (n : ℕ). n - 1) z))
+played {s₀} (then-run {l} n h e) = on (played h) (run-plays n s₀ (countOf l) e)
+
+-- a step back more
+pub back-past : {s₀ s : State} {l : List Said} (r : walk.Reply) → Called s₀ l s → pastOf s₀ (backed r ∷ l) ≡ tally s₀ aback s (stepBack s) (pastOf s₀ l)
+back-past {s₀} {s} {l} r h =
+    history-on s₀ (allOps l) (aback ∷ []) s₀ (past 0 0) ∙ ap (λ (x : State). tally s₀ aback x (stepBack x) (pastOf s₀ l)) (sym (played h .leads))
 
 -- ---- the journal words in use
 
--- are those that the last call told of, and one for each step and store that is counted
-record Words (c : Count) (s : State) : Type 0 where
+-- of all n steps: one for each, and one for each store
+length-all : (n : ℕ) (s : State) → length (records n n s) ≡ n + total n s
+length-all zero s = refl
+length-all (suc n) s =
+    omega (arith, length-append (records n n s) (recordOf (forward n s)), length-all n s, length-map (stepStores (forward n s)) wordOf)
+
+-- they are those that the last call told of, and where none is dropped one for each step and store that is counted
+record Words (s₀ : State) (c : Count) (s : State) : Type 0 where
   told : c .used ≡ s .mem .used
-  each : c .used ≡ c .steps + c .stores
+  each : s₀ .mem .ring ≡ false → c .used ≡ c .steps + c .stores
 
-by-answer : (a : ℕ) {c d : Count} {s t : State} → Words c s → (a ≡ 0 → Words d t) → ((a ≡ 0 → ⊥) → t .mem .used ≡ s .mem .used)
-    → Words (pick (eqb a 0) d c) t
-by-answer zero w h k = h refl
-by-answer (suc a) w h k =
+by-answer : (a : ℕ) {s₀ : State} {c d : Count} {t : State} → (a ≡ 0 → Words s₀ d t) → ((a ≡ 0 → ⊥) → Words s₀ c t) → Words s₀ (pick (eqb a 0) d c) t
+by-answer zero h k = h refl
+by-answer (suc a) h k =
     let ne : suc a ≡ 0 → ⊥ = λ z. omega arith in
-    rw (ne-eqb (suc a) 0 ne) (record { told = w .told ∙ sym (k ne); each = w .each })
+    rw (ne-eqb (suc a) 0 ne) (k ne)
 
-step-words : {c : Count} {s : State} {x : Returned walk.Reply} → Words c s → Tells told stepping s x → Words (counts (stepped (x .result)) c) (leaves x)
-step-words {x = x} w e =
-    by-answer (x .result .answer) w (λ q. record { told = refl; each = omega (arith, w .told, w .each, demand2 e q .words) })
-    (λ h. demand1 e h .0 .used)
+step-words : {s₀ : State} {c : Count} {s : State} {x : Returned walk.Reply} → s .mem .ring ≡ s₀ .mem .ring → Words s₀ c s → Tells told stepping s x
+    → Words s₀ (counts (stepped (x .result)) c) (leaves x)
+step-words {s₀} {c} {s} {x} m w e =
+    by-answer (x .result .answer)
+    (λ q. record { told = refl; each = λ r. omega (arith, w .told, w .each r, demand2 e q .used, drops-plain (m ∙ r) (demand2 e q .drops)) })
+    (λ h. record { told = refl; each = λ r. omega (arith, w .told, w .each r, demand1 e h .0 .used, drops-plain (m ∙ r) (demand1 e h .0 .drops)) })
 
-ends-words : {n : ℕ} {s : State} {r : Report} → Good s → Ends n s r → r .end .mem .used ≡ s .mem .used + r .steps + r .stores
-ends-words {n} {s} g (full a) = used-run s g n a
-ends-words {n} {s} g (cut {k} {a} {t} l h e) = replies-of.demand1 (forward k s) a t e .used ∙ used-run s g k h
+-- a run of steps drops none in the plain mode
+ends-words : {n : ℕ} {s : State} {r : Report} → Good s → s .mem .ring ≡ false → Ends n s r → r .end .mem .used ≡ s .mem .used + r .steps + r .stores
+ends-words {n} {s} g p (full a) = history-of.used-run s g p n a
+ends-words {n} {s} g p (cut {k} {a} {t} l h e) =
+    let d : Demand1 (forward k s) a t = replies-of.demand1 (forward k s) a t e in
+    omega (arith, d .used, drops-plain (history-of.ring-forward s g k h ∙ p) (d .drops), history-of.used-run s g p k h)
 
-run-words : (n : ℕ) {c : Count} {s : State} {x : Returned runs.Report} → Good s → Words c s → Tells reported (run n) s x
-    → Words (counts (ran (x .result)) c) (reported x .end)
-run-words n {c} {s} {x} g w e = go (fits (s .mem)) refl
+run-words : (n : ℕ) {s₀ : State} {c : Count} {s : State} {x : Returned runs.Report} → Good s → s .mem .ring ≡ s₀ .mem .ring → Words s₀ c s → Tells reported (run n) s x
+    → Words s₀ (counts (ran (x .result)) c) (reported x .end)
+run-words n {s₀} {c} {s} {x} g m w e = go (fits (s .mem)) refl
   where
-    go : (b : Bool) → fits (s .mem) ≡ b → Words (counts (ran (x .result)) c) (reported x .end)
-    go true f = record { told = refl; each = omega (arith, w .told, w .each, ends-words g (run-ends n e f)) }
+    go : (b : Bool) → fits (s .mem) ≡ b → Words s₀ (counts (ran (x .result)) c) (reported x .end)
+    go true f = record { told = refl; each = λ r. omega (arith, w .told, w .each r, ends-words g (m ∙ r) (run-ends n e f)) }
     go false f =
         let q = run-unfit n e f in
         record {
           told = refl;
-          each = omega (
+          each = λ r. omega (
             arith,
             w .told,
-            w .each,
-            ap (λ (r : Report). r .steps) q,
-            ap (λ (r : Report). r .stores) q,
-            ap (λ (r : Report). r .end .mem .used) q,
+            w .each r,
+            ap (λ (y : Report). y .steps) q,
+            ap (λ (y : Report). y .stores) q,
+            ap (λ (y : Report). y .end .mem .used) q,
           );
         }
 
--- what is accepted has answered 0
+-- what is accepted has answered 0, and what has is
 accepted-0 : {f : State → Outcome} {s : State} {x : Returned walk.Reply} → Tells told f s x → Accepted (f s .reply) → x .result .answer ≡ 0
 accepted-0 {x = x} e h = go (x .result .answer) refl
   where
@@ -170,49 +183,69 @@ accepted-0 {x = x} e h = go (x .result .answer) refl
     go zero q = refl
     go (suc a) q = absurd (subst Accepted (refuses e (λ z. omega (arith, q, z))) h)
 
+-- with no step kept a step back is refused: 12, or 11 where test 11 fails
+pub refuses-back : {s₀ : State} {h : Past} {s : State} → Demand3 s₀ h s → h .kept ≡ 0 → Refused (stepBack s)
+unfolding stepBack
+refuses-back {s = s} d q = go (fits (s .mem)) refl
+  where
+    go : (c : Bool) → fits (s .mem) ≡ c → Refused (stepBack s)
+    go true f = subst Refused (sym (d .none-left q f)) tt
+    go false f = rw f tt
+
 module _ {s₀ : State} (g : Good s₀) (z : s₀ .mem .used ≡ 0) where
   -- of the steps that the rules keep
-  pub demand3-kept : {s : State} {l : List Said} → Called s₀ l s → Demand3 s₀ (kept (allOps l) s₀ 0) s
-  demand3-kept {l = l} h = rw (played h .leads) (history.demand3 s₀ g z (allOps l))
+  pub demand3-kept : {s : State} {l : List Said} → Called s₀ l s → Demand3 s₀ (pastOf s₀ l) s
+  demand3-kept {l = l} h = rw (played h .leads) (history-of.demand3 s₀ g z (allOps l))
 
-  -- of those that are counted
-  demand3-counted : {s : State} {l : List Said} → Called s₀ l s → Demand3 s₀ (countOf l .steps) s
-  demand3-counted h = rw (played h .keeps) (demand3-kept h)
+  counts-steps : {s : State} {l : List Said} → Called s₀ l s → pastOf s₀ l .steps ≡ countOf l .steps
+  counts-steps h = played h .keeps (past 0 0) refl
 
-  good-there : {s : State} {n : ℕ} → Demand3 s₀ n s → Good s
-  good-there {s} {n} d =
-      let f : Good (forward n s₀) = history.good-forward s₀ g n (d .accepted) in
+  good-there : {s : State} {h : Past} → Demand3 s₀ h s → Good s
+  good-there {s} {h} d =
+      let f : Good (forward (h .steps) s₀) = history-of.good-forward s₀ g (h .steps) (d .accepted) in
       record { address = rw (d .address) (f .address); bytes = (λ k i. rw (d .memories k) (f .bytes .0 k i), rw (d .groups) (g .bytes .1)) }
 
-  back-words : {c : Count} {s : State} {x : Returned walk.Reply} → Words c s → Demand3 s₀ (c .steps) s → Tells told backing s x
-      → Demand3 s₀ (counts (backed (x .result)) c .steps) (leaves x) → Words (counts (backed (x .result)) c) (leaves x)
-  back-words {c} {s} {x} w d e d₂ =
-      by-answer (x .result .answer) w (λ q. one (c .steps) refl q (rw q at d₂)) (λ h. ap (λ (t : State). t .mem .used) (step-back-refused e h .1))
-    where
-      one : (n : ℕ) → c .steps ≡ n → x .result .answer ≡ 0 → Demand3 s₀ (c .steps - 1) (leaves x) → Words (oneLess (x .result) c) (leaves x)
-      one zero q a d₃ = absurd (subst Refused (accepts e a) (d .none-left q))
-      one (suc n) q a d₃ =
-          let less : c .steps - 1 ≡ n = omega arith in
-          let before : s .mem .used ≡ suc n + total (suc n) s₀ = subst (λ (k : ℕ). s .mem .used ≡ k + total k s₀) q (d .used) in
-          let after : x .result .at .used ≡ n + total n s₀ = subst (λ (k : ℕ). x .result .at .used ≡ k + total k s₀) less (d₃ .used) in
-          record { told = refl; each = omega (arith, w .told, w .each) }
+  -- in the plain mode
+  all-used : {s : State} {l : List Said} → Called s₀ l s → s₀ .mem .ring ≡ false → s .mem .used ≡ countOf l .steps + total (countOf l .steps) s₀
+  all-used {s} {l} h r =
+      let d : Demand3 s₀ (pastOf s₀ l) s = demand3-kept h in
+      d .used ∙ ap (λ (k : ℕ). length (records k (pastOf s₀ l .steps) s₀)) (d .all r) ∙ ap (λ (n : ℕ). length (records n n s₀)) (counts-steps h)
+      ∙ length-all (countOf l .steps) s₀
 
-  words : {s : State} {l : List Said} → Called s₀ l s → Words (countOf l) s
-  words no-call = record { told = sym z; each = refl }
-  words (then-step h e) = step-words (words h) e
-  words (then-back h e) = back-words (words h) (demand3-counted h) e (demand3-counted (then-back h e))
-  words (then-run n h e) = run-words n (good-there (demand3-counted h)) (words h) e
+  back-words : {s : State} {l : List Said} {x : Returned walk.Reply} → Words s₀ (countOf l) s → (h : Called s₀ l s) → Tells told backing s x
+      → Words s₀ (counts (backed (x .result)) (countOf l)) (leaves x)
+  back-words {s} {l} {x} w h e =
+      by-answer (x .result .answer) (λ q. record { told = refl; each = λ r. one (countOf l .steps) refl q r })
+      (λ q. record { told = refl; each = λ r. omega (arith, w .told, w .each r, ap (λ (t : State). t .mem .used) (step-back-refused e q .1)) })
+    where
+      one : (n : ℕ) → countOf l .steps ≡ n → x .result .answer ≡ 0 → s₀ .mem .ring ≡ false
+          → x .result .at .used ≡ countOf l .steps - 1 + (countOf l .stores - (countOf l .used - x .result .at .used - 1))
+      one zero q a r =
+          let d : Demand3 s₀ (pastOf s₀ l) s = demand3-kept h in
+          absurd (subst Refused (accepts e a) (refuses-back d (d .all r ∙ counts-steps h ∙ q)))
+      one (suc n) q a r =
+          let before : s .mem .used ≡ suc n + total (suc n) s₀ = subst (λ (k : ℕ). s .mem .used ≡ k + total k s₀) q (all-used h r) in
+          let less : countOf (backed (x .result) ∷ l) .steps ≡ n = rw a (omega arith) in
+          let after : x .result .at .used ≡ n + total n s₀ = subst (λ (k : ℕ). x .result .at .used ≡ k + total k s₀) less (all-used (then-back h e) r) in
+          omega (arith, w .told, w .each r)
+
+  words : {s : State} {l : List Said} → Called s₀ l s → Words s₀ (countOf l) s
+  words no-call = record { told = sym z; each = λ r. refl }
+  words (then-step h e) = step-words (demand3-kept h .mode) (words h) e
+  words (then-back h e) = back-words (words h) h e
+  words (then-run n h e) = run-words n (good-there (demand3-kept h)) (demand3-kept h .mode) (words h) e
 
   -- Demand 3. From any state with an empty journal, after any sequence of calls of `step`, `step_back` and `run`, refused ones among them.
-  pub demand3 : {s : State} {l : List Said} → Called s₀ l s → Keeps s₀ (countOf l) s
+  pub demand3 : {s : State} {l : List Said} → Called s₀ l s → Keeps s₀ (pastOf s₀ l) (countOf l) s
   demand3 {s} {l} h =
-      let d : Demand3 s₀ (countOf l .steps) s = demand3-counted h in
-      let w : Words (countOf l) s = words h in
+      let d : Demand3 s₀ (pastOf s₀ l) s = demand3-kept h in
+      let w : Words s₀ (countOf l) s = words h in
       record {
         steps = d;
+        counted = counts-steps h;
         used = sym (w .told);
         words = w .each;
-        stores = omega (arith, d .used, w .told, w .each);
+        stores = λ r. omega (arith, all-used h r, w .told, w .each r);
         some-left = λ {x} e n. accepted-0 e (d .some-left n);
-        none-left = λ {x} e n. step-back-refused e (λ a. subst Refused (accepts e a) (d .none-left n)) .0;
+        none-left = λ {x} e n. step-back-refused e (λ a. subst Refused (accepts e a) (refuses-back d n)) .0;
       }

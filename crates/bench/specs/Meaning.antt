@@ -6,14 +6,15 @@ use Prim.Native.Nat.{ℕ, _-_, _≤_}
 use lib.Dec.{eqb, leb}
 use lib.ListN.{length, take, drop}
 use denote.Ref.{RefT, now}
-use Rattle.rules.specs.Machine.{pick, Mem, mem, State, state}
+use Rattle.rules.specs.Machine.{pick, State, state, atRest}
 use Rattle.rules.specs.Answers.{Answer, saying}
-use Rattle.rules.specs.Journal.{Store, blanked}
+use Rattle.rules.specs.Journal.{Store}
 use Rattle.rules.specs.Rules.{Out, got, stopped}
 use Rattle.rules.specs.Opcodes.{Task, does}
 use Rattle.rules.specs.Calls as calls
+use Rattle.ring.specs.declared.book.Book.{Book}
 use Rattle.machine.specs.declared.state.Now.{Now}
-use Rattle.machine.specs.Meaning.{IsPad, IsVram, IsRegs, Parts, Rest, memBefore, memAfter, end, unseenAll, Stand, outOf}
+use Rattle.machine.specs.Meaning.{IsPad, IsVram, IsRegs, Parts, Rest, after′, memOf, memBefore, end, unseenAll, Stand, outOf}
 use Rattle.bench.specs.declared.at.At.{At}
 use Rattle.bench.specs.declared.walk.Reply as walk
 use Rattle.bench.specs.declared.runs.Report as runs
@@ -22,12 +23,17 @@ use Rattle.bench.specs.declared.viewer.Memory.the-variants.{Cpu, Vdp}
 
 -- ---- where a machine stands
 
-abbrev pub stands : Now → ℕ → At
-stands m w = record { pc = m .pc; used = m .used; writable = w }
+-- the journal's book, where no step is being made
+abbrev pub bookAt : At → Book
+bookAt at = record { used = at .used; older = at .used; place = at .place; ring = at .ring }
 
--- beside image, pad, VDP RAM, registers and journal
+-- where a machine rests
+abbrev pub rests : ℕ → Book → ℕ → At
+rests pc b w = record { pc = pc; used = b .used; ring = b .ring; place = b .place; writable = w }
+
+-- beside image, pad, VDP RAM, registers and the caller's journal
 abbrev pub stateAt : List ℕ → List ℕ → List ℕ → List ℕ → List ℕ → At → State
-stateAt i p v g j at = state (at .pc) (mem i (at .writable) p v g j (at .used))
+stateAt i p v g j at = state (at .pc) (memOf i (at .writable) p v g j (bookAt at))
 
 -- ---- what test 11 asks
 
@@ -55,8 +61,10 @@ pub record Returned (A : Type 0) : Type 0 where
 abbrev pub returned : {A : Type 0} → List ℕ → List ℕ → List ℕ → List ℕ → List ℕ → A → Returned A
 returned i p v g j r = record { image = i; pad = p; vram = v; regs = g; journal = j; result = r }
 
-abbrev pub returnedOf : {A : Type 0} → Mem → A → Returned A
-returnedOf m r = returned (m .image) (m .pad) (m .vram) (m .regs) (m .journal) r
+abbrev pub returnedBy : {A : Type 0} → (q : Parts) → Rest q → A → Returned A
+returnedBy q rest r =
+    returned (after′ (q .image) (rest .image)) (after′ (q .pad) (rest .pad)) (after′ (q .vram) (rest .vram)) (after′ (q .regs) (rest .regs))
+    (after′ (q .journal) (rest .journal)) r
 
 abbrev pub standsAt : {A : Type 0} → Returned A → At → State
 standsAt x at = stateAt (x .image) (x .pad) (x .vram) (x .regs) (x .journal) at
@@ -92,12 +100,12 @@ refusal a at = record { answer = a .number; address = a .address; stores = 0; at
 
 -- how an attempt is settled, with the number of its stores: "A refused step puts all back", and reports none
 abbrev pub settled : State → Out (Unit {0}) → List Store → Outcome
-settled s (got a pc m) ss = outcome (calls.done (state pc m)) (length ss)
-settled s (stopped a m) ss = outcome (calls.refused a (state (s .pc) (blanked (m .used - s .mem .used) (s .mem)))) 0
+settled s (got a pc m) ss = outcome (calls.settle s (got a pc m)) (length ss)
+settled s (stopped a m) ss = outcome (calls.settle s (stopped a m)) 0
 
 -- a task, its opcode read, past which is pc₁
 abbrev pub beginning : Task → ℕ → State → Outcome
-beginning t pc₁ s = settled s (calls.begin (s .pc) (does t) pc₁ (s .mem)) (calls.beginStores (s .pc) (does t) pc₁ (s .mem))
+beginning t pc₁ s = settled s (calls.begin (s .pc) (does t) pc₁ (atRest (s .mem))) (calls.beginStores (s .pc) (does t) pc₁ (atRest (s .mem)))
 
 -- a step past test 11
 abbrev pub settling : State → Outcome
@@ -131,20 +139,16 @@ pub record Tells {A B : Type 0} (say : Returned A → B) (f : State → B) (s : 
 
 -- the mark and a task, whose opcode is read, past which is pc₁, have brought a machine to where it stands
 pub record Tries (t : Task) (pc₁ : ℕ) (s : State) (e : Stand) : Type 0 where
-  pub is : outOf e ≡ calls.begin (s .pc) (does t) pc₁ (s .mem)
+  pub is : outOf e ≡ calls.begin (s .pc) (does t) pc₁ (atRest (s .mem))
 
 -- the state that a function is lent, where q are the parts that it sees
 abbrev pub lentTo : (q : Parts) → Rest q → At → State
-lentTo q rest at = state (at .pc) (memBefore q rest (at .used))
-
--- and the one that it leaves
-abbrev pub leftBy : (q : Parts) → Rest q → At → State
-leftBy q rest at = state (at .pc) (memAfter q rest (at .used))
+lentTo q rest at = state (at .pc) (memBefore q rest (bookAt at))
 
 -- at goes in, and a result or a machine comes out: whatever the rest of the machine is, that is so of what was lent and what is left
 abbrev pub Returns : {A B : Type 0} → (Returned A → B) → (State → B) → (q : Parts) → At → A → Type 0
 Returns say f q at r =
-    (rest : Rest q) → Tells say f (lentTo q rest at) (returnedOf (memAfter q rest (at .used)) r)
+    (rest : Rest q) → Tells say f (lentTo q rest at) (returnedBy q rest r)
 
 abbrev pub Attempts : Task → ℕ → (Parts → Parts) → At → Now → Type 0
 Attempts t pc₁ parts at m =

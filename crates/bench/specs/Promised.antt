@@ -1,12 +1,13 @@
 -- What the theorems about the public calls speak of. Of a call they know its contract alone.
 use mathlib.Core.Path.{_≡_}
-use mathlib.Core.List.{List, [], _∷_}
-use Prim.Native.Nat.{ℕ, suc, _+_, _-_, _<_}
+use mathlib.Core.Bool.{false}
+use mathlib.Core.List.{List, [], _∷_, _++_}
+use Prim.Native.Nat.{ℕ, zero, suc, _+_, _-_, _<_}
 use lib.Dec.{eqb}
 use Rattle.rules.specs.Machine.{pick, State}
 use Rattle.rules.specs.Answers.{saying}
 use Rattle.rules.specs.Calls.{run}
-use Rattle.rules.specs.Demands.{BackCause, total, Demand3}
+use Rattle.rules.specs.Demands.{BackCause, Op, forth, aback, total, Past, past, history, Demand3}
 use Rattle.bench.specs.declared.walk.Reply as walk
 use Rattle.bench.specs.declared.runs.Report as runs
 use Rattle.bench.specs.Meaning.{Returned, leaves, told, stepping, backing, reported, Tells}
@@ -46,10 +47,14 @@ oneMore r c = count (suc (c .steps)) (c .stores + r .stores) (r .at .used)
 abbrev pub oneLess : walk.Reply → Count → Count
 oneLess r c = count (c .steps - 1) (c .stores - (c .used - r .at .used - 1)) (r .at .used)
 
--- what was refused counts for nothing; a run counts by its own report
+-- what was refused counts for nothing, but a ring may have lost words by it
+abbrev pub noMore : walk.Reply → Count → Count
+noMore r c = count (c .steps) (c .stores) (r .at .used)
+
+-- a run counts by its own report
 abbrev pub counts : Said → Count → Count
-counts (stepped r) c = pick (eqb (r .answer) 0) (oneMore r c) c
-counts (backed r) c = pick (eqb (r .answer) 0) (oneLess r c) c
+counts (stepped r) c = pick (eqb (r .answer) 0) (oneMore r c) (noMore r c)
+counts (backed r) c = pick (eqb (r .answer) 0) (oneLess r c) (noMore r c)
 counts (ran r) c = count (c .steps + r .steps) (c .stores + r .stores) (r .at .used)
 
 -- from "an empty journal" on
@@ -57,16 +62,41 @@ abbrev pub countOf : List Said → Count
 countOf [] = count 0 0 0
 countOf (a ∷ l) = counts a (countOf l)
 
+-- ---- the same in the words of the rules
+
+-- so many steps
+abbrev pub forths : ℕ → List Op
+forths zero = []
+forths (suc n) = forths n ++ forth ∷ []
+
+-- a run is the steps that it made, and where it was cut short one that was refused
+abbrev pub runOps : ℕ → ℕ → List Op
+runOps a k = forths k ++ pick (eqb a 0) [] (forth ∷ [])
+
+abbrev pub ops : Said → List Op
+ops (stepped r) = forth ∷ []
+ops (backed r) = aback ∷ []
+ops (ran r) = runOps (r .answer) (r .steps)
+
+abbrev pub allOps : List Said → List Op
+allOps [] = []
+allOps (a ∷ l) = allOps l ++ ops a
+
+-- the accepted steps not taken back, and how many of them the rules keep
+abbrev pub pastOf : State → List Said → Past
+pastOf s₀ l = history s₀ (allOps l) s₀ (past 0 0)
+
 -- ---- demand 3
 
--- What is so of the state s to which calls from s₀ have led, where c is what was counted:
-pub record Keeps (s₀ : State) (c : Count) (s : State) : Type 0 where
-  -- so many steps, and no other call, lead from s₀ to the same address, memories and journal words
-  pub steps : Demand3 s₀ (c .steps) s
-  -- "The journal then uses one word for each such step and one for each store that it made"
+-- What is so of the state s to which calls from s₀ have led, where c is what was counted, and h what the rules keep:
+pub record Keeps (s₀ : State) (h : Past) (c : Count) (s : State) : Type 0 where
+  -- so many steps, and no other call, lead from s₀ to the same address and memories, and those that are kept to the same journal words
+  pub steps : Demand3 s₀ h s
+  pub counted : h .steps ≡ c .steps
   pub used : s .mem .used ≡ c .used
-  pub words : c .used ≡ c .steps + c .stores
-  pub stores : c .stores ≡ total (c .steps) s₀
+  -- "The journal then uses one word for each such step and one for each store that it made": where none is dropped, by what was counted
+  pub words : s₀ .mem .ring ≡ false → c .used ≡ c .steps + c .stores
+  pub stores : s₀ .mem .ring ≡ false → c .stores ≡ total (c .steps) s₀
   -- "A step-back is refused only when no such step is left.": the answer of the next one
-  pub some-left : {x : Returned walk.Reply} → Tells told backing s x → 0 < c .steps → x .result .answer ≡ 0
-  pub none-left : {x : Returned walk.Reply} → Tells told backing s x → c .steps ≡ 0 → BackCause s (saying (x .result .answer) (x .result .address))
+  pub some-left : {x : Returned walk.Reply} → Tells told backing s x → 0 < h .kept → x .result .answer ≡ 0
+  pub none-left : {x : Returned walk.Reply} → Tells told backing s x → h .kept ≡ 0 → BackCause s (saying (x .result .answer) (x .result .address))

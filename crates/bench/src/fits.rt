@@ -1,8 +1,9 @@
 // Test 11, on lengths alone.
+use crate::at::At;
 use machine::cells;
 ghost use mathlib.Core.Path.{_≡_};
 ghost use Rattle.rules.specs.Machine.{_also_};
-ghost use Rattle.rules.specs.Calls.{imageFits, partsFit};
+ghost use Rattle.rules.specs.Calls.{imageFits, partsFit, placeFits};
 
 // 1 to 8 whole groups.
 pub fn image_fits(n: usize) -> bool
@@ -36,19 +37,28 @@ pub fn parts_fit(pad: usize, vram: usize, regs: usize, journal: usize, used: usi
     used <= journal
 }
 
-// Test 11 of a step: the image too.
-pub fn all_fit(
-    image: usize,
-    pad: usize,
-    vram: usize,
-    regs: usize,
-    journal: usize,
-    used: usize,
-) -> bool
-    ensures { λ r. ⌜ r ≡ (imageFits image also partsFit pad vram regs journal used) ⌝ }
+// The place of a ring's oldest word.
+fn place_fits(ring: bool, place: usize, journal: usize) -> bool
+    ensures { λ r. ⌜ r ≡ placeFits ring place journal ⌝ }
 {
-    if image_fits(image) {
-        return parts_fit(pad, vram, regs, journal, used);
+    if !ring {
+        return true;
     }
-    false
+    if place == 0 {
+        return true;
+    }
+    place < journal
+}
+
+// Test 11, by the lengths and where the machine stands.
+pub fn all_fit(image: usize, pad: usize, vram: usize, regs: usize, journal: usize, at: At) -> bool
+    ensures { λ r. ⌜ r ≡ (imageFits image also partsFit pad vram regs journal (at .used) also placeFits (at .ring) (at .place) journal) ⌝ }
+{
+    if !image_fits(image) {
+        return false;
+    }
+    if !parts_fit(pad, vram, regs, journal, at.used) {
+        return false;
+    }
+    place_fits(at.ring, at.place, journal)
 }

@@ -92,7 +92,7 @@ pub fn run(
         vram.len(),
         regs.len(),
         journal.len(),
-        at.used,
+        at,
     );
     if !fit {
         return turned_down(Why::WrongLength, at);

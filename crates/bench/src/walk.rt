@@ -73,19 +73,19 @@ fn do_task(
     ensures { λ r. ⌜ Replies (beginning (taskOf task) next) (Image image & Groups (at .writable) & Pad pad & Vram vram & Regs regs & Journal journal) at r ⌝ }
 {
     let m = try_task(image, pad, vram, regs, journal, at, next, task);
-    let top = m.used;
-    let taken = top - at.used;
+    let book = m.book;
+    let taken = book.used - book.older;
     if m.answer == 0 {
         let stores = taken - 1;
         return Reply {
             answer: 0,
             address: 0,
             stores: stores as u64,
-            at: at::reached(m, at.writable),
+            at: at::rest(m.pc, book, at.writable),
         };
     }
-    machine::journal::undo(image, pad, vram, regs, journal, top, taken);
-    refused(m.answer, m.address, at)
+    let back = machine::journal::undo(image, pad, vram, regs, journal, book, taken);
+    refused(m.answer, m.address, at::rest(at.pc, back, at.writable))
 }
 
 // A step past test 11: the opcode, and its class.
@@ -127,7 +127,7 @@ pub fn step(
         vram.len(),
         regs.len(),
         journal.len(),
-        at.used,
+        at,
     );
     if !fit {
         return turned_down(Why::WrongLength, at);
@@ -149,22 +149,18 @@ fn fit_back(
     requires { ⌜ Fit pad vram regs journal at ⌝ }
     ensures { λ r. ⌜ Replies undoing (Image image & Groups (at .writable) & Pad pad & Vram vram & Regs regs & Journal journal) at r ⌝ }
 {
-    let found = machine::journal::find(journal, at.used, image.len(), at.writable);
+    let book = at::book(at);
+    let found = machine::journal::find(journal, book, image.len(), at.writable);
     let words = found.words;
     if words == 0 {
         return turned_down(Why::NoRecord, at);
     }
-    let left = machine::journal::undo(image, pad, vram, regs, journal, at.used, words);
-    let back = At {
-        pc: found.pc,
-        used: left,
-        writable: at.writable,
-    };
+    let left = machine::journal::undo(image, pad, vram, regs, journal, book, words);
     Reply {
         answer: 0,
         address: 0,
         stores: 0,
-        at: back,
+        at: at::rest(found.pc, left, at.writable),
     }
 }
 
@@ -184,7 +180,7 @@ pub fn step_back(
         vram.len(),
         regs.len(),
         journal.len(),
-        at.used,
+        at,
     );
     if !parts {
         return turned_down(Why::WrongLength, at);

@@ -14,12 +14,16 @@ use Rattle.lines.specs.Lines.{Part, grom, pad, vdp, reg, size, Line, sets, jump
 abbrev pub remade : (Mem → Mem) → State → State
 remade f s = state (s .pc) (f (s .mem))
 
+-- image, pad, VDP RAM and registers beside the journal
+abbrev pub filled : List ℕ → List ℕ → List ℕ → List ℕ → Mem → Mem
+filled i p v g m = mem i (m .groups) p v g (m .journal) (m .used) (m .older) (m .place) (m .ring)
+
 -- "each with address and hex bytes": they are laid over the part
 abbrev pub placed : Part → ℕ → List ℕ → State → State
-placed grom at bs = remade (λ m. mem (laid (m .image) at bs) (m .groups) (m .pad) (m .vram) (m .regs) (m .journal) (m .used))
-placed pad at bs = remade (λ m. mem (m .image) (m .groups) (laid (m .pad) at bs) (m .vram) (m .regs) (m .journal) (m .used))
-placed vdp at bs = remade (λ m. mem (m .image) (m .groups) (m .pad) (laid (m .vram) at bs) (m .regs) (m .journal) (m .used))
-placed reg at bs = remade (λ m. mem (m .image) (m .groups) (m .pad) (m .vram) (laid (m .regs) at bs) (m .journal) (m .used))
+placed grom at bs = remade (λ m. filled (laid (m .image) at bs) (m .pad) (m .vram) (m .regs) m)
+placed pad at bs = remade (λ m. filled (m .image) (laid (m .pad) at bs) (m .vram) (m .regs) m)
+placed vdp at bs = remade (λ m. filled (m .image) (m .pad) (laid (m .vram) at bs) (m .regs) m)
+placed reg at bs = remade (λ m. filled (m .image) (m .pad) (m .vram) (laid (m .regs) at bs) m)
 
 abbrev pub obeyed : Line → State → State
 obeyed (sets p at bs) s = placed p at bs s
@@ -75,10 +79,10 @@ unfoldable pub told : ℕ → List (List ℕ) → State → List ℕ
 told k [] s = []
 told k (l ∷ ls) s = printed k (heard l) s ++ cond (says (heard l)) (told (suc k) ls (obeyed (heard l) s)) []
 
--- "Its image is 32,768 zeros, its journal 16,384 words; all not set is 0." No group of it is named writable, and no line names one.
+-- "Its image is 32,768 zeros, its journal 16,384 words; all not set is 0." No group of it is named writable, and no line names one; no ring is asked for.
 abbrev pub start : State
 start =
-    state 0 (mem (replicate (size grom) 0) 0 (replicate (size pad) 0) (replicate (size vdp) 0) (replicate (size reg) 0) (replicate 16384 0) 0)
+    state 0 (mem (replicate (size grom) 0) 0 (replicate (size pad) 0) (replicate (size vdp) 0) (replicate (size reg) 0) (replicate 16384 0) 0 0 0 false)
 
 -- "The program reads standard input", and what it prints
 unfoldable pub whole : List ℕ → List ℕ

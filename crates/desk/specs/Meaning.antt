@@ -6,9 +6,9 @@ use Prim.Native.Nat.{ℕ, suc, _+_, _-_, _≤_, _<_}
 use lib.ListN.{length, take, drop}
 use denote.Ref.{now}
 use Rattle.bytes.specs.Bytes.{indexOf}
-use Rattle.machine.specs.Meaning.{Lent, Parts, Rest, memAfter, unseenAll}
-use Rattle.rules.specs.Machine.{Mem, State}
-use Rattle.bench.specs.Meaning.{stateAt, lentTo}
+use Rattle.machine.specs.Meaning.{Lent, Parts, Rest, unseenAll}
+use Rattle.rules.specs.Machine.{State}
+use Rattle.bench.specs.Meaning.{returnedBy, standsAt, lentTo}
 use Rattle.bench.specs.declared.at.At.{At}
 use Rattle.bench.specs.declared.runs.Report.{Report}
 use Rattle.lines.specs.Lines as lines
@@ -20,15 +20,13 @@ use Rattle.desk.specs.declared.obey.Stand.{Stand}
 use Rattle.desk.specs.declared.turns.Place.{Place}
 use Rattle.desk.specs.declared.turns.Turn.{Turn}
 
--- "all not set is 0": pc, the words of the journal that are used, and the writable groups
+-- "all not set is 0": pc, the words of the journal that are used, and the writable groups; and the journal is no ring
 abbrev pub outset : At
-outset = record { pc = 0; used = 0; writable = 0 }
+outset = record { pc = 0; used = 0; ring = false; place = 0; writable = 0 }
 
 -- the state that a function leaves, where q are the parts that it sees: the parts as they are, and where the machine stands beside them
 abbrev pub standing : (q : Parts) → Rest q → At → State
-standing q rest at =
-    let m : Mem = memAfter q rest (at .used) in
-    stateAt (m .image) (m .pad) (m .vram) (m .regs) (m .journal) at
+standing q rest at = standsAt (returnedBy q rest at) at
 
 -- ---- a line obeyed
 

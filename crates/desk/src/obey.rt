@@ -23,13 +23,15 @@ pub struct Stand {
     pub good: bool,
 }
 
-// Where it stands before the first line: at 0, with nothing in its journal, and no group to be written.
+// Where it stands before the first line: at 0, with nothing in its journal, which is no ring, and no group to be written.
 pub fn first() -> At
     ensures { λ r. ⌜ r ≡ outset ⌝ }
 {
     At {
         pc: 0,
         used: 0,
+        ring: false,
+        place: 0,
         writable: 0,
     }
 }

@@ -1,4 +1,4 @@
-mod Groups
+mod Chosen
 mod Numbers
 mod Shown
 mod Determined

@@ -1,6 +1,6 @@
 -- The numbers that come out, as what the rules say.
 use mathlib.Core.Path.{_≡_, refl, _∙_, ap, sym}
-use mathlib.Core.Bool.{Bool, true, false}
+use mathlib.Core.Bool.{Bool, true, false, not}
 use mathlib.Core.List.{List, [], _∷_}
 use Prim.Native.Nat.{ℕ, zero, suc, _+_}
 use native.Mathlib.Omega.{arith}
@@ -23,17 +23,23 @@ unfolding replies
 tally zero d n s = refl
 tally (suc a) d n s = rw (ne-eqb (suc a) 0 (λ e. omega arith))
 
-module _ {i p v g j out : List ℕ} {s : State} where
-  pub heard-report : {f : State → Report} {r : runs.Report} {w : ℕ} → r .at .writable ≡ w → out ≡ r .at .pc ∷ r .at .used ∷ r .steps ∷ r .stores ∷ r .address ∷ []
-      → Tells reported f s (returned i p v g j r) → Tells (heard w) f s (returned i p v g j (record { answer = r .answer; out = out }))
+module _ {i p v g j out : List ℕ} {s : State} (ring : ℕ) {w : ℕ} where
+  pub heard-report : {f : State → Report} {r : runs.Report} → _≡_ {A = ℕ × Bool} (r .at .writable, r .at .ring) (w, not (eqb ring 0))
+      → out ≡ r .at .pc ∷ r .at .used ∷ r .steps ∷ r .stores ∷ r .address ∷ r .at .place ∷ []
+      → Tells reported f s (returned i p v g j r) → Tells (heard ring w) f s (returned i p v g j (record { answer = r .answer; out = out }))
   unfolding heard
-  heard-report q e h = record { is = rw (e, sym q) (h .is) }
+  heard-report q e h = record { is = rw (e, sym (ap (λ (c : ℕ × Bool). c .0) q), sym (ap (λ (c : ℕ × Bool). c .1) q)) (h .is) }
 
-  pub heard-reply : {f : State → Outcome} {r : walk.Reply} {k w : ℕ} → r .at .writable ≡ w → out ≡ r .at .pc ∷ r .at .used ∷ k ∷ r .stores ∷ r .address ∷ []
+  pub heard-reply : {f : State → Outcome} {r : walk.Reply} {k : ℕ} → _≡_ {A = ℕ × Bool} (r .at .writable, r .at .ring) (w, not (eqb ring 0))
+      → out ≡ r .at .pc ∷ r .at .used ∷ k ∷ r .stores ∷ r .address ∷ r .at .place ∷ []
       → k ≡ pick (eqb (r .answer) 0) 1 0 → Tells told f s (returned i p v g j r)
-      → Tells (heard w) (λ (t : State). counted (f t)) s (returned i p v g j (record { answer = r .answer; out = out }))
+      → Tells (heard ring w) (λ (t : State). counted (f t)) s (returned i p v g j (record { answer = r .answer; out = out }))
   unfolding heard counted
-  heard-reply {r = r} y e q h = record { is = rw (e, q, sym y) (tally (r .answer) (r .address) (r .stores) (stateAt i p v g j (r .at)) ∙ ap counted (h .is)) }
+  heard-reply {r = r} y e q h =
+      record {
+        is = rw (e, q, sym (ap (λ (c : ℕ × Bool). c .0) y), sym (ap (λ (c : ℕ × Bool). c .1) y))
+            (tally (r .answer) (r .address) (r .stores) (stateAt i p v g j (r .at)) ∙ ap counted (h .is));
+      }
 
 -- ---- a run of one step is a step
 
@@ -53,5 +59,5 @@ module _ (s : State) where
       go true e = once (step s)
       go false e = rw (step-unfit s e)
 
-pub heard-once : (w : ℕ) {s : State} {x : Returned Numbers} → Tells (heard w) (run 1) s x → Tells (heard w) oneStep s x
-heard-once w {s} h = record { is = h .is ∙ run-once s }
+pub heard-once : (ring w : ℕ) {s : State} {x : Returned Numbers} → Tells (heard ring w) (run 1) s x → Tells (heard ring w) oneStep s x
+heard-once ring w {s} h = record { is = h .is ∙ run-once s }

@@ -1,5 +1,6 @@
 -- How a caller in C reads the numbers that come out, in the words of the rules.
 use mathlib.Core.Path.{_≡_}
+use mathlib.Core.Bool.{not}
 use mathlib.Core.List.{List, [], _∷_}
 use Prim.Native.Nat.{ℕ}
 use lib.Dec.{eqb}
@@ -9,25 +10,31 @@ use Rattle.rules.specs.Machine.{pick, State}
 use Rattle.rules.specs.Answers.{saying}
 use Rattle.rules.specs.Calls as calls
 use Rattle.machine.specs.Meaning.{Lent, Parts, unseenAll}
+use Rattle.bench.specs.declared.at.At.{At}
 use Rattle.bench.specs.Meaning.{Returned, standsAt, Outcome, stepping, backing, Returns}
 
--- ---- steps: the answer, and `out` with pc, used words, steps, stores and address
+-- ---- where the machine stands, by the numbers that are lent: any but 0 asks for a ring
+
+abbrev pub stands : ℕ → ℕ → ℕ → ℕ → ℕ → At
+stands pc used ring place w = record { pc = pc; used = used; ring = not (eqb ring 0); place = place; writable = w }
+
+-- ---- steps: the answer, and `out` with pc, used words, steps, stores, address and place
 
 pub record Numbers : Type 0 where
   pub answer : ℕ
   pub out : List ℕ
 
--- the report that these make, beside the parts as they are left and the writable groups that were lent, which no call alters
-unfoldable pub heard : ℕ → Returned Numbers → calls.Report
-heard w x =
+-- the report that these make, beside the parts as they are left and the mode and the writable groups that were lent, which no call alters
+unfoldable pub heard : ℕ → ℕ → Returned Numbers → calls.Report
+heard ring w x =
     let out : List ℕ = x .result .out in
     calls.report (saying (x .result .answer) (getD out 4 0)) (getD out 2 0) (getD out 3 0)
-    (standsAt x (record { pc = getD out 0 0; used = getD out 1 0; writable = w }))
+    (standsAt x (stands (getD out 0 0) (getD out 1 0) ring (getD out 5 0) w))
 
--- an address, the used words and the writable groups go in; the answer and `out` are what the rules say of the parts lent
-abbrev pub Hears : (State → calls.Report) → (Parts → Parts) → ℕ → ℕ → ℕ → ℕ → Lent → Type 0
-Hears f parts pc used w answer out =
-    Returns (heard w) f (parts unseenAll) (record { pc = pc; used = used; writable = w }) (record { answer = answer; out = now (out .exit) })
+-- an address, the used words, the mode, the place and the writable groups go in; the answer and `out` are what the rules say of the parts lent
+abbrev pub Hears : (State → calls.Report) → (Parts → Parts) → ℕ → ℕ → ℕ → ℕ → ℕ → ℕ → Lent → Type 0
+Hears f parts pc used ring place w answer out =
+    Returns (heard ring w) f (parts unseenAll) (stands pc used ring place w) (record { answer = answer; out = now (out .exit) })
 
 -- a reply as a report: one step where it was done, none where it was refused
 abbrev pub tallied : calls.Reply → ℕ → ℕ → calls.Report

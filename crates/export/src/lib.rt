@@ -14,11 +14,18 @@ ghost use Rattle.export.specs.Meaning.{Hears, oneStep, oneBack, Shows, s
 
 // ---- steps
 
-// The five numbers in their order.
-fn tell(out: &mut [u64; 5], at: At, steps: u64, stores: u64, address: u16)
-    ensures { λ _. ⌜ now (out .exit) ≡ at .pc ∷ at .used ∷ steps ∷ stores ∷ address ∷ [] ⌝ }
+// The six numbers in their order.
+fn tell(out: &mut [u64; 6], at: At, steps: u64, stores: u64, address: u16)
+    ensures { λ _. ⌜ now (out .exit) ≡ at .pc ∷ at .used ∷ steps ∷ stores ∷ address ∷ at .place ∷ [] ⌝ }
 {
-    *out = [at.pc as u64, at.used as u64, steps, stores, address as u64];
+    *out = [
+        at.pc as u64,
+        at.used as u64,
+        steps,
+        stores,
+        address as u64,
+        at.place as u64,
+    ];
 }
 
 // A call that was done is one step.
@@ -38,12 +45,27 @@ pub extern "C" fn argolythe_step(
     journal: &mut [u32],
     pc: u16,
     used: usize,
+    ring: u8,
+    place: usize,
     writable: u8,
-    out: &mut [u64; 5],
+    out: &mut [u64; 6],
 ) -> u8
-    ensures { λ r. ⌜ Hears oneStep (Image image & Groups writable & Pad pad & Vram vdp & Regs reg & Journal journal) pc used writable r out ⌝ }
+    ensures { λ r. ⌜ Hears oneStep (Image image & Groups writable & Pad pad & Vram vdp & Regs reg & Journal journal) pc used ring place writable r out ⌝ }
 {
-    argolythe_run(image, pad, vdp, reg, journal, pc, used, writable, 1, out)
+    argolythe_run(
+        image,
+        pad,
+        vdp,
+        reg,
+        journal,
+        pc,
+        used,
+        ring,
+        place,
+        writable,
+        1,
+        out,
+    )
 }
 
 // Up to n steps.
@@ -56,13 +78,23 @@ pub extern "C" fn argolythe_run(
     journal: &mut [u32],
     pc: u16,
     used: usize,
+    ring: u8,
+    place: usize,
     writable: u8,
     n: u32,
-    out: &mut [u64; 5],
+    out: &mut [u64; 6],
 ) -> u8
-    ensures { λ r. ⌜ Hears (run n) (Image image & Groups writable & Pad pad & Vram vdp & Regs reg & Journal journal) pc used writable r out ⌝ }
+    ensures { λ r. ⌜ Hears (run n) (Image image & Groups writable & Pad pad & Vram vdp & Regs reg & Journal journal) pc used ring place writable r out ⌝ }
 {
-    let r = bench::runs::run(image, pad, vdp, reg, journal, At { pc, used, writable }, n);
+    let ring = ring != 0;
+    let start = At {
+        pc,
+        used,
+        ring,
+        place,
+        writable,
+    };
+    let r = bench::runs::run(image, pad, vdp, reg, journal, start, n);
     let steps = r.steps as u64;
     let at = r.at;
     tell(out, at, steps, r.stores, r.address);
@@ -79,12 +111,22 @@ pub extern "C" fn argolythe_step_back(
     journal: &mut [u32],
     pc: u16,
     used: usize,
+    ring: u8,
+    place: usize,
     writable: u8,
-    out: &mut [u64; 5],
+    out: &mut [u64; 6],
 ) -> u8
-    ensures { λ r. ⌜ Hears oneBack (Image image & Groups writable & Pad pad & Vram vdp & Regs reg & Journal journal) pc used writable r out ⌝ }
+    ensures { λ r. ⌜ Hears oneBack (Image image & Groups writable & Pad pad & Vram vdp & Regs reg & Journal journal) pc used ring place writable r out ⌝ }
 {
-    let r = bench::walk::step_back(image, pad, vdp, reg, journal, At { pc, used, writable });
+    let ring = ring != 0;
+    let start = At {
+        pc,
+        used,
+        ring,
+        place,
+        writable,
+    };
+    let r = bench::walk::step_back(image, pad, vdp, reg, journal, start);
     let steps = steps_of(r.answer);
     let at = r.at;
     tell(out, at, steps, r.stores, r.address);

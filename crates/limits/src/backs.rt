@@ -15,6 +15,8 @@ fn try_back(what: &[u8], image: &mut [u8], low: u32, high: u32, used: usize) {
     let at = At {
         pc: 0x1234,
         used,
+        ring: false,
+        place: 0,
         writable: 0x06,
     };
     let b = bench::walk::step_back(image, &mut pad, &mut vram, &mut regs, &mut journal, at);

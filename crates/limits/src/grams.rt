@@ -85,6 +85,8 @@ fn try_card(what: &[u8], was: &[u8], image: &mut [u8], journal: &mut [u32], writ
     let at = At {
         pc: 0,
         used: 0,
+        ring: false,
+        place: 0,
         writable,
     };
     let r = bench::runs::run(image, &mut pad, &mut vram, &mut regs, journal, at, n);

@@ -1,7 +1,8 @@
-// What the program can't show: images of one group and of eight, parts of a wrong length, a journal with no room, steps back, and groups that may be
-// written.
+// What the program can't show: images of one group and of eight, parts of a wrong length, a journal with no room, steps back, groups that may be
+// written, and journals that are rings.
 mod backs;
 mod grams;
+mod rings;
 mod shown;
 
 use bench::at::At;
@@ -23,6 +24,8 @@ fn try_step(what: &[u8], image: &mut [u8], journal: &mut [u32], used: usize) {
     let at = At {
         pc: 0,
         used,
+        ring: false,
+        place: 0,
         writable: 0,
     };
     let r = bench::runs::run(image, &mut pad, &mut vram, &mut regs, journal, at, 1);
@@ -69,4 +72,5 @@ fn main() {
     try_step(b"a journal of one word\n", &mut image, &mut word, 0);
     backs::all();
     grams::all();
+    rings::all();
 }

@@ -31,6 +31,23 @@ pub(crate) fn show_run(
     write_run(what, &out, count);
 }
 
+// A run's answer and where it ends.
+pub(crate) fn show_answer(r: Report) {
+    let mut out = [0u8; 83];
+    let a = print::put_answer(&mut out, 0, r.answer, r.steps, r.stores, r.address);
+    let b = print::put_pc(&mut out, a, r.at.pc);
+    desk::show::write_text(&out, b);
+}
+
+// A number with its name.
+pub(crate) fn show_number(name: &[u8], n: u64) {
+    let mut out = [0u8; 21];
+    io::write_all(1, name);
+    let a = print::put_decimal(&mut out, 0, n);
+    let b = print::put_word(&mut out, a, b"\n");
+    desk::show::write_text(&out, b);
+}
+
 // A step back as a run of no steps.
 pub(crate) fn as_run(b: Reply) -> Report {
     let at = b.at;
@@ -96,6 +113,15 @@ pub(crate) fn show_words(journal: &[u32]) {
         if journal[at] != 0 {
             show_word(journal[at]);
         }
+        at += 1;
+    }
+}
+
+// Each word of the journal.
+pub(crate) fn show_journal(journal: &[u32]) {
+    let mut at: usize = 0;
+    while at < journal.len() {
+        show_word(journal[at]);
         at += 1;
     }
 }

@@ -12,8 +12,9 @@ use borrow.Author.Tests.{lt-ltb, le-ltb, ne-eqb}
 use Rattle.rules.specs.Machine.{Kind, cpu, vdp, register, grom, size, reach, extent, writable, Mem, area, cells, put, onward}
 use Rattle.rules.specs.Answers.{Why, Answer, saying, number, answerFor, offGrom, noRoom, readOnly, outside}
 use Rattle.rules.specs.Journal.{kindNumber, word, lay}
-use Rattle.rules.specs.Rules.{Rule, _>>=_, got, stopped, perform, exec, after, valued, nextByte, gromByte, here, goto, peek, poke, need}
+use Rattle.rules.specs.Rules.{Rule, _>>=_, got, stopped, room, spare, perform, exec, after, valued, nextByte, gromByte, here, goto, peek, poke, need}
 use Rattle.rules.proofs.Opcodes.{never-done}
+use Rattle.ring.specs.declared.book.Book.{Book}
 use Rattle.machine.specs.Meaning.{outs, Stand, stand, Goes, kindOf, HasCells, reachOf, mayStore, IsNear, with}
 use Rattle.machine.specs.declared.memory.Memory.{Memory}
 use Rattle.machine.specs.declared.memory.Memory.the-variants.{Cpu, Vdp, Register, Grom}
@@ -85,30 +86,30 @@ module _ {pc : ℕ} {z : Answer} {m : Mem} (h : z .number ≡ 0) where
 
 -- ---- loads and stores, over the memory
 
-cells-with : (k : Memory) (c j : List ℕ) (u : ℕ) (x : Mem) → cells (kindOf k) (with k c j u x) ≡ c
-cells-with Cpu c j u x = refl
-cells-with Vdp c j u x = refl
-cells-with Register c j u x = refl
-cells-with (Grom w) c j u x = refl
+cells-with : (k : Memory) (c j : List ℕ) (d : Book) (x : Mem) → cells (kindOf k) (with k c j d x) ≡ c
+cells-with Cpu c j d x = refl
+cells-with Vdp c j d x = refl
+cells-with Register c j d x = refl
+cells-with (Grom w) c j d x = refl
 
-put-with : (k : Memory) (a b : ℕ) (c j : List ℕ) (u : ℕ) (x : Mem) → put (kindOf k) a b (with k c j u x) ≡ with k (set c a b) j u x
-put-with Cpu a b c j u x = refl
-put-with Vdp a b c j u x = refl
-put-with Register a b c j u x = refl
-put-with (Grom w) a b c j u x = refl
+put-with : (k : Memory) (a b : ℕ) (c j : List ℕ) (d : Book) (x : Mem) → put (kindOf k) a b (with k c j d x) ≡ with k (set c a b) j d x
+put-with Cpu a b c j d x = refl
+put-with Vdp a b c j d x = refl
+put-with Register a b c j d x = refl
+put-with (Grom w) a b c j d x = refl
 
 -- what a rule may reach and write is what the code asks for
-reach-with : (k : Memory) (c j : List ℕ) (u : ℕ) (x : Mem) → extent (area (with k c j u x)) (kindOf k) ≡ reachOf k (length c)
-reach-with Cpu c j u x = refl
-reach-with Vdp c j u x = refl
-reach-with Register c j u x = refl
-reach-with (Grom w) c j u x = refl
+reach-with : (k : Memory) (c j : List ℕ) (d : Book) (x : Mem) → extent (area (with k c j d x)) (kindOf k) ≡ reachOf k (length c)
+reach-with Cpu c j d x = refl
+reach-with Vdp c j d x = refl
+reach-with Register c j d x = refl
+reach-with (Grom w) c j d x = refl
 
-store-with : (k : Memory) (a : ℕ) (c j : List ℕ) (u : ℕ) (x : Mem) → writable (area (with k c j u x)) (kindOf k) a ≡ mayStore k a
-store-with Cpu a c j u x = refl
-store-with Vdp a c j u x = refl
-store-with Register a c j u x = refl
-store-with (Grom w) a c j u x = refl
+store-with : (k : Memory) (a : ℕ) (c j : List ℕ) (d : Book) (x : Mem) → writable (area (with k c j d x)) (kindOf k) a ≡ mayStore k a
+store-with Cpu a c j d x = refl
+store-with Vdp a c j d x = refl
+store-with Register a c j d x = refl
+store-with (Grom w) a c j d x = refl
 
 -- a cell in reach is there, its address is small where it may be stored into, and so is its kind
 pub within : (k : Memory) {a q n : ℕ} → q ≡ reachOf k n → HasCells k n → a < q → a < n
@@ -130,45 +131,48 @@ kind-small Register = lit< tt
 kind-small (Grom w) = lit< tt
 
 -- the tests of a machine that has these cells, and this journal; q is how many are in reach
-module _ (k : Memory) (c j : List ℕ) (u : ℕ) (x : Mem) (a : ℕ) where
-  far : {q : ℕ} → q ≡ reachOf k (length c) → q ≤ a → ltb a (extent (area (with k c j u x)) (kindOf k)) ≡ false
-  far r l = le-ltb a _ (rw (reach-with k c j u x) (omega arith))
+module _ (k : Memory) (c j : List ℕ) (d : Book) (x : Mem) (a : ℕ) where
+  far : {q : ℕ} → q ≡ reachOf k (length c) → q ≤ a → ltb a (extent (area (with k c j d x)) (kindOf k)) ≡ false
+  far r l = le-ltb a _ (rw (reach-with k c j d x) (omega arith))
 
-  there : {q : ℕ} → q ≡ reachOf k (length c) → a < q → ltb a (extent (area (with k c j u x)) (kindOf k)) ≡ true
-  there r l = lt-ltb a _ (rw (reach-with k c j u x) (omega arith))
+  there : {q : ℕ} → q ≡ reachOf k (length c) → a < q → ltb a (extent (area (with k c j d x)) (kindOf k)) ≡ true
+  there r l = lt-ltb a _ (rw (reach-with k c j d x) (omega arith))
 
-  may : {t : Bool} → mayStore k a ≡ t → writable (area (with k c j u x)) (kindOf k) a ≡ t
-  may e = store-with k a c j u x ∙ e
+  may : {t : Bool} → mayStore k a ≡ t → writable (area (with k c j d x)) (kindOf k) a ≡ t
+  may e = store-with k a c j d x ∙ e
 
 -- and the ways out
-module _ (k : Memory) (c : List ℕ) (x : Mem) {a q pc u : ℕ} {z : Answer} {j : List ℕ} (h : z .number ≡ 0) (r : q ≡ reachOf k (length c)) where
+module _ (k : Memory) (c j : List ℕ) (d : Book) (x : Mem) {a q pc : ℕ} {z : Answer} (h : z .number ≡ 0) (r : q ≡ reachOf k (length c)) where
   pub peek-far : {n : Answer} {v : ℕ} → q ≤ a → n ≡ answerFor (outside (kindOf k) a)
-      → Goes (stand z pc (with k c j u x)) (peek (kindOf k) a) v (stand n pc (with k c j u x))
+      → Goes (stand z pc (with k c j d x)) (peek (kindOf k) a) v (stand n pc (with k c j d x))
   unfolding outs after valued exec perform
-  peek-far {v = v} l e = record { is = rw e (ap (valued v) (refusal (outside (kindOf k) a) pc (with k c j u x)) ∙ rw (h, far k c j u x a r l)) }
+  peek-far {v = v} l e = record { is = rw e (ap (valued v) (refusal (outside (kindOf k) a) pc (with k c j d x)) ∙ rw (h, far k c j d x a r l)) }
 
-  pub peeked : {v : ℕ} → a < q → v ≡ getD c a 0 → Goes (stand z pc (with k c j u x)) (peek (kindOf k) a) v (stand z pc (with k c j u x))
+  pub peeked : {v : ℕ} → a < q → v ≡ getD c a 0 → Goes (stand z pc (with k c j d x)) (peek (kindOf k) a) v (stand z pc (with k c j d x))
   unfolding outs after valued exec perform
-  peeked l e = record { is = rw (h, there k c j u x a r l, e, cells-with k c j u x) }
+  peeked l e = record { is = rw (h, there k c j d x a r l, e, cells-with k c j d x) }
 
   pub poke-far : {n : Answer} {b : ℕ} → q ≤ a → n ≡ answerFor (outside (kindOf k) a)
-      → Goes (stand z pc (with k c j u x)) (poke (kindOf k) a b) tt (stand n pc (with k c j u x))
+      → Goes (stand z pc (with k c j d x)) (poke (kindOf k) a b) tt (stand n pc (with k c j d x))
   unfolding outs after exec perform
-  poke-far l e = goes (rw e (refusal (outside (kindOf k) a) pc (with k c j u x) ∙ rw (h, far k c j u x a r l)))
+  poke-far l e = goes (rw e (refusal (outside (kindOf k) a) pc (with k c j d x) ∙ rw (h, far k c j d x a r l)))
 
   pub poke-barred : {b : ℕ} → a < q → mayStore k a ≡ false
-      → Goes (stand z pc (with k c j u x)) (poke (kindOf k) a b) tt (stand (answerFor readOnly) pc (with k c j u x))
+      → Goes (stand z pc (with k c j d x)) (poke (kindOf k) a b) tt (stand (answerFor readOnly) pc (with k c j d x))
   unfolding outs after exec perform
-  poke-barred l d = goes (rw (h, there k c j u x a r l, may k c j u x a d))
+  poke-barred l g = goes (rw (h, there k c j d x a r l, may k c j d x a g))
 
-  pub poke-full : {b : ℕ} → a < q → mayStore k a ≡ true → length j ≤ u
-      → Goes (stand z pc (with k c j u x)) (poke (kindOf k) a b) tt (stand (answerFor noRoom) pc (with k c j u x))
+  -- with room left or made, or none to be made
+  pub poke-full : (j₁ : List ℕ) (d₁ : Book) {b : ℕ} → a < q → mayStore k a ≡ true
+      → (room (spare (with k c j d x)) ≡ false) × (with k c j₁ d₁ x ≡ spare (with k c j d x))
+      → Goes (stand z pc (with k c j d x)) (poke (kindOf k) a b) tt (stand (answerFor noRoom) pc (with k c j₁ d₁ x))
   unfolding outs after exec perform
-  poke-full l d f = goes (rw (h, there k c j u x a r l, may k c j u x a d, le-ltb u (length j) f))
+  poke-full j₁ d₁ l g s = goes (rw (h, there k c j d x a r l, may k c j d x a g, s .0, s .1))
 
-  pub poked : {b n w : ℕ} → a < q → mayStore k a ≡ true → u < length j → b < 256 → n ≡ kindNumber (kindOf k) → w ≡ n * 2 ^ 29 + a * 256 + getD c a 0
-      → Goes (stand z pc (with k c j u x)) (poke (kindOf k) a b) tt (stand z pc (with k (set c a b) (set j u w) (u + 1) x))
+  pub poked : (j₁ : List ℕ) (d₁ : Book) {b n w : ℕ} → a < q → mayStore k a ≡ true → b < 256 → n ≡ kindNumber (kindOf k)
+      → w ≡ n * 2 ^ 29 + a * 256 + getD c a 0 → (room (spare (with k c j d x)) ≡ true) × (with k c j₁ d₁ x ≡ lay w (spare (with k c j d x)))
+      → Goes (stand z pc (with k c j d x)) (poke (kindOf k) a b) tt (stand z pc (with k (set c a b) j₁ d₁ x))
   unfolding outs after exec perform word
-  poked {b = b} l d f g i e =
-      goes (rw (h, there k c j u x a r l, may k c j u x a d, lt-ltb u (length j) f, mod-eq-of-lt g, e, i, add-one u, cells-with k c j u x)
-      (ap (λ (y : Mem). got tt pc (lay (kindNumber (kindOf k) * 2 ^ 29 + a * 256 + getD c a 0) y)) (sym (put-with k a b c j u x))))
+  poked j₁ d₁ {b = b} {w = w} l g t i e s =
+      goes (rw (h, there k c j d x a r l, may k c j d x a g, s .0, mod-eq-of-lt t, cells-with k c j d x, ← i, ← e)
+      (ap (λ (y : Mem). got tt pc y) (sym (put-with k a b c j₁ d₁ x) ∙ ap (put (kindOf k) a b) (s .1))))

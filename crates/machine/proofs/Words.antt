@@ -10,23 +10,13 @@ use lib.Dec.{ltb}
 use lib.ListN.{length, getD, set}
 use borrow.Author.Tests.{ne-eqb, lt-ltb, le-ltb, ltb-true}
 use Rattle.rules.specs.Machine.{_also_, Kind, grom, Area, extent, writable, Mem, mem, put, beside}
-use Rattle.rules.specs.Journal.{kindNumber, markWord, Note, mark, stoodIn, noteOf, note, sound, restore, zeroTop, undoTop, undo}
+use Rattle.rules.specs.Journal.{kindNumber, markWord, lay, Note, mark, stoodIn, noteOf, note, sound, restore, zeroTop, undoTop, undo}
 use Rattle.rules.specs.Answers.{Answer, saying, answerFor, noRoom}
-use Rattle.rules.specs.Rules.{then}
+use Rattle.rules.specs.Rules.{then, room, spare}
 use Rattle.rules.specs.Calls.{takeMark, Find, found, lost, further, passed, seen, scan}
 use Rattle.rules.proofs.Undo.{noteOf-kind, restore-beside}
-use Rattle.rules.proofs.Fits.{false-true}
+use Rattle.rules.proofs.Tests.{false-true}
 use Rattle.machine.specs.Meaning.{outs, foundAt}
-
--- ---- a test denied
-
-pub denied : (b : Bool) → not b ≡ true → b ≡ false
-denied true h = absurd (let z : _≡_ {A = ℕ} 0 1 = cc in omega arith)
-denied false h = refl
-
-pub granted : (b : Bool) → not b ≡ false → b ≡ true
-granted true h = refl
-granted false h = absurd (let z : _≡_ {A = ℕ} 0 1 = cc in omega arith)
 
 -- ---- two tests
 
@@ -49,15 +39,15 @@ pub mark-still : (pc : ℕ) (a : Answer) (pc₁ : ℕ) (m : Mem) → (a .number 
 unfolding outs
 mark-still pc a pc₁ m h = rw (ne-eqb (a .number) 0 h)
 
-module _ (pc pc₁ d : ℕ) (m : Mem) {z : ℕ} (h : z ≡ 0) where
-  pub mark-full : length (m .journal) ≤ m .used → outs (answerFor noRoom) pc₁ m ≡ then (outs (saying z d) pc₁ m) (λ _ pc₂ m₂. takeMark pc pc₂ m₂)
+module _ (pc pc₁ d : ℕ) (m : Mem) {m₁ : Mem} {z : ℕ} (h : z ≡ 0) where
+  pub mark-full : (room (spare m) ≡ false) × (m₁ ≡ spare m) → outs (answerFor noRoom) pc₁ m₁ ≡ then (outs (saying z d) pc₁ m) (λ _ pc₂ m₂. takeMark pc pc₂ m₂)
   unfolding outs takeMark
-  mark-full l = rw (h, le-ltb (m .used) (length (m .journal)) l)
+  mark-full s = rw (h, s .0, s .1)
 
-  pub mark-taken : m .used < length (m .journal) → (w : ℕ) → w ≡ markWord pc
-      → outs (saying z d) pc₁ (beside (set (m .journal) (m .used) w) (m .used + 1) m) ≡ then (outs (saying z d) pc₁ m) (λ _ pc₂ m₂. takeMark pc pc₂ m₂)
+  pub mark-taken : (w : ℕ) → w ≡ markWord pc → (room (spare m) ≡ true) × (m₁ ≡ lay w (spare m))
+      → outs (saying z d) pc₁ m₁ ≡ then (outs (saying z d) pc₁ m) (λ _ pc₂ m₂. takeMark pc pc₂ m₂)
   unfolding outs takeMark
-  mark-taken l w e = rw (h, lt-ltb (m .used) (length (m .journal)) l, e, add-one (m .used))
+  mark-taken w e s = rw (h, s .0, ← e, s .1)
 
 -- ---- what a word says, by its kind
 
@@ -115,17 +105,17 @@ set-beyond (x ∷ l) (suc a) b h = ap (λ (r : List ℕ). x ∷ r) (set-beyond l
 
 -- ---- the top word, and the top n
 
-pub undo-none : (u : ℕ) (m : Mem) → u ≡ 0 → beside (m .journal) 0 m ≡ undoTop u (beside (m .journal) u m)
+pub undo-none : (u : ℕ) (m : Mem) → u ≡ 0 → m ≡ undoTop u m
 unfolding undoTop
 undo-none u m e = rw e
 
-pub undone : (u t w : ℕ) (m m′ : Mem) → (u ≡ 0 → ⊥) → t ≡ u - 1 → w ≡ getD (m .journal) t 0
-    → m′ ≡ restore (note w) (beside (set (m .journal) t 0) t m) → m′ ≡ undoTop u m
+pub undone : (u t w : ℕ) (m m₁ m₂ : Mem) → (u ≡ 0 → ⊥) → t ≡ u - 1 → w ≡ getD (m .journal) t 0 → m₁ ≡ zeroTop t m → m₂ ≡ restore (note w) m₁
+    → m₂ ≡ undoTop u m
 unfolding undoTop
-undone zero t w m m′ h s e f = absurd (h refl)
-undone (suc u) t w m m′ h s e f =
+undone zero t w m m₁ m₂ h s e z f = absurd (h refl)
+undone (suc u) t w m m₁ m₂ h s e z f =
     let q : t ≡ u = omega arith in
-    f ∙ restore-beside (note w) (set (m .journal) t 0) t m
+    f ∙ ap (restore (note w)) z ∙ restore-beside (note w) (set (m .journal) t 0) t m
     ∙ ap₂ (λ (n x : ℕ). beside (set (m .journal) n 0) n (restore (note x) m)) q (e ∙ ap (λ (n : ℕ). getD (m .journal) n 0) q)
     ∙ sym (ap (zeroTop u) (restore-beside (note (getD (m .journal) u 0)) (m .journal) (m .used) m))
 

@@ -1,8 +1,8 @@
 -- What the code's values say, in the words of the rules.
 use mathlib.Core.Path.{_≡_}
 use mathlib.Core.List.{List}
-use mathlib.Core.Bool.{Bool, true}
-use Prim.Native.Nat.{ℕ, _+_, _/_, _<_}
+use mathlib.Core.Bool.{Bool, true, false}
+use Prim.Native.Nat.{ℕ, _/_, _<_}
 use lib.Dec.{eqb}
 use lib.ListN.{length, set}
 use denote.Ref.{RefT, now}
@@ -12,6 +12,8 @@ use Rattle.rules.specs.Rules.{Rule, Deed, Out, got, stopped, then, after, value
 use Rattle.rules.specs.Answers as answers
 use Rattle.rules.specs.Answers.{Answer, saying}
 use Rattle.rules.specs.Calls as calls
+use Rattle.rules.specs.Journal.{turned}
+use Rattle.ring.specs.declared.book.Book.{Book}
 use Rattle.machine.specs.declared.state.Now.{Now}
 use Rattle.machine.specs.declared.answers.Why.{Why}
 use Rattle.machine.specs.declared.answers.Why.the-variants.{Ended, NoSuch, NeedsHost, OffCpu, OffVdp, OffGrom, OffStack, TooLong, NoRoom, WrongLength, NoRecord, OffRegister, TooCoarse, ReadOnly}
@@ -58,9 +60,17 @@ outOf s = outs (s .answer) (s .pc) (s .mem)
 abbrev pub answerOf : Now → Answer
 answerOf n = saying (n .answer) (n .address)
 
--- the state beside image, writable groups, pad, VDP RAM, registers and journal
+-- image, writable groups, pad, VDP RAM and registers, and the caller's journal with its book
+abbrev pub memOf : List ℕ → ℕ → List ℕ → List ℕ → List ℕ → List ℕ → Book → Mem
+memOf i w p v g j b = mem i w p v g (turned (b .ring) (b .place) j) (b .used) (b .older) (b .place) (b .ring)
+
+-- the same with no book
+abbrev pub unbooked : List ℕ → ℕ → List ℕ → List ℕ → List ℕ → List ℕ → Mem
+unbooked i w p v g j = mem i w p v g j 0 0 0 false
+
+-- the state beside them
 abbrev pub standing : List ℕ → ℕ → List ℕ → List ℕ → List ℕ → List ℕ → Now → Stand
-standing i w p v g j n = stand (answerOf n) (n .pc) (mem i w p v g j (n .used))
+standing i w p v g j n = stand (answerOf n) (n .pc) (memOf i w p v g j (n .book))
 
 -- from s the rule goes to t, and gives a
 pub record Goes {A : Type 0} (s : Stand) (r : Rule A) (a : A) (t : Stand) : Type 0 where
@@ -72,19 +82,19 @@ pub record Owes {A : Type 0} (s : Stand) (r : Rule A) (t : Stand) (q : Rule A) :
 
 -- ---- the states that the code makes
 
-abbrev pub began : ℕ → ℕ → Now
-began pc u = record { pc = pc; used = u; answer = 0; address = 0; byte = 0; word = 0 }
+abbrev pub began : ℕ → Book → Now
+began pc b = record { pc = pc; book = b; answer = 0; address = 0; byte = 0; word = 0 }
 
 abbrev pub refusedBy : Answer → Now → Now
-refusedBy a n = record { pc = n .pc; used = n .used; answer = a .number; address = a .address; byte = 0; word = 0 }
+refusedBy a n = record { pc = n .pc; book = n .book; answer = a .number; address = a .address; byte = 0; word = 0 }
 
 -- a byte read, and where pc is then
 abbrev pub readBy : ℕ → ℕ → Now → Now
-readBy pc b n = record { pc = pc; used = n .used; answer = n .answer; address = n .address; byte = b; word = 0 }
+readBy pc b n = record { pc = pc; book = n .book; answer = n .answer; address = n .address; byte = b; word = 0 }
 
--- one journal word more is used
-abbrev pub laidBy : Now → Now
-laidBy n = record { pc = n .pc; used = n .used + 1; answer = n .answer; address = n .address; byte = 0; word = 0 }
+-- the journal's book after a change
+abbrev pub keptBy : Book → Now → Now
+keptBy b n = record { pc = n .pc; book = b; answer = n .answer; address = n .address; byte = 0; word = 0 }
 
 -- ---- what a contract says
 
@@ -185,20 +195,20 @@ pub record Rest (q : Parts) : Type 0 where
   pub regs : Unseen (q .regs)
   pub journal : Unseen (q .journal)
 
--- the memories before and after, with so many journal words used
-abbrev pub memBefore : (q : Parts) → Rest q → ℕ → Mem
-memBefore q w u =
-    mem (before (q .image) (w .image)) (groupsIn (q .groups) (w .groups)) (before (q .pad) (w .pad)) (before (q .vram) (w .vram)) (before (q .regs) (w .regs)) (before (q .journal) (w .journal)) u
+-- the memories before and after, by the journal's book
+abbrev pub memBefore : (q : Parts) → Rest q → Book → Mem
+memBefore q w b =
+    memOf (before (q .image) (w .image)) (groupsIn (q .groups) (w .groups)) (before (q .pad) (w .pad)) (before (q .vram) (w .vram)) (before (q .regs) (w .regs)) (before (q .journal) (w .journal)) b
 
-abbrev pub memAfter : (q : Parts) → Rest q → ℕ → Mem
-memAfter q w u =
-    mem (after′ (q .image) (w .image)) (groupsIn (q .groups) (w .groups)) (after′ (q .pad) (w .pad)) (after′ (q .vram) (w .vram)) (after′ (q .regs) (w .regs)) (after′ (q .journal) (w .journal)) u
+abbrev pub memAfter : (q : Parts) → Rest q → Book → Mem
+memAfter q w b =
+    memOf (after′ (q .image) (w .image)) (groupsIn (q .groups) (w .groups)) (after′ (q .pad) (w .pad)) (after′ (q .vram) (w .vram)) (after′ (q .regs) (w .regs)) (after′ (q .journal) (w .journal)) b
 
 abbrev pub start : (q : Parts) → Rest q → Now → Stand
-start q w m = stand (answerOf m) (m .pc) (memBefore q w (m .used))
+start q w m = stand (answerOf m) (m .pc) (memBefore q w (m .book))
 
 abbrev pub end : (q : Parts) → Rest q → Now → Stand
-end q w n = stand (answerOf n) (n .pc) (memAfter q w (n .used))
+end q w n = stand (answerOf n) (n .pc) (memAfter q w (n .book))
 
 -- m goes in, n comes out, and a value: whatever the rest of the machine is, the rule goes from what was lent to what is left, and gives the value
 abbrev pub Gives : {A : Type 0} → A → Rule A → (Parts → Parts) → Now → Now → Type 0
@@ -216,9 +226,9 @@ abbrev pub Marks : ℕ → (Parts → Parts) → Now → Now → Type 0
 Marks pc f m n =
     (rest : Rest (f unseenAll)) → outOf (end (f unseenAll) rest n) ≡ then (outOf (start (f unseenAll) rest m)) (λ _ pc₁ m₁. calls.takeMark pc pc₁ m₁)
 
--- the memories, of whose journal u words were used, become what a function makes of them, and v are used
-abbrev pub Became : (Mem → Mem) → (Parts → Parts) → ℕ → ℕ → Type 0
-Became g f u v = (rest : Rest (f unseenAll)) → memAfter (f unseenAll) rest v ≡ g (memBefore (f unseenAll) rest u)
+-- the memories become what a function makes of them, and the journal's book b becomes c
+abbrev pub Became : (Mem → Mem) → (Parts → Parts) → Book → Book → Type 0
+Became g f b c = (rest : Rest (f unseenAll)) → memAfter (f unseenAll) rest c ≡ g (memBefore (f unseenAll) rest b)
 
 -- the lengths of what is lent
 abbrev pub IsPad : RefT (List ℕ) → Type 0
@@ -276,23 +286,23 @@ groupsOf Vdp m = m .groups
 groupsOf Register m = m .groups
 groupsOf (Grom w) m = w
 
--- a machine with other cells of one kind, and the journal and the used words beside them
-abbrev pub with : Memory → List ℕ → List ℕ → ℕ → Mem → Mem
-with k c j u m =
-    mem (upon (kindOf k) (m .image) (m .image) (m .image) c) (groupsOf k m) (upon (kindOf k) c (m .pad) (m .pad) (m .pad))
-    (upon (kindOf k) (m .vram) c (m .vram) (m .vram)) (upon (kindOf k) (m .regs) (m .regs) c (m .regs)) j u
+-- a machine with other cells of one kind, and the caller's journal with its book beside them
+abbrev pub with : Memory → List ℕ → List ℕ → Book → Mem → Mem
+with k c j b m =
+    memOf (upon (kindOf k) (m .image) (m .image) (m .image) c) (groupsOf k m) (upon (kindOf k) c (m .pad) (m .pad) (m .pad))
+    (upon (kindOf k) (m .vram) c (m .vram) (m .vram)) (upon (kindOf k) (m .regs) (m .regs) c (m .regs)) j b
 
 -- a byte is loaded from one of its cells: in any machine that has these
 abbrev pub Loads : Memory → ℕ → Lent → Now → Now → Type 0
 Loads k a s m n =
-    (x : Mem) → Goes (stand (answerOf m) (m .pc) (with k (now (s .entry)) (x .journal) (m .used) x)) (peek (kindOf k) a) (n .byte)
-    (stand (answerOf n) (n .pc) (with k (now (s .entry)) (x .journal) (n .used) x))
+    (x : Mem) → Goes (stand (answerOf m) (m .pc) (with k (now (s .entry)) (x .journal) (m .book) x)) (peek (kindOf k) a) (n .byte)
+    (stand (answerOf n) (n .pc) (with k (now (s .entry)) (x .journal) (n .book) x))
 
 -- a byte is stored into one
 abbrev pub Stores : Memory → ℕ → ℕ → Lent → Lent → Now → Now → Type 0
 Stores k a b s j m n =
-    (x : Mem) → Goes (stand (answerOf m) (m .pc) (with k (now (s .entry)) (now (j .entry)) (m .used) x)) (poke (kindOf k) a b) tt
-    (stand (answerOf n) (n .pc) (with k (now (s .exit)) (now (j .exit)) (n .used) x))
+    (x : Mem) → Goes (stand (answerOf m) (m .pc) (with k (now (s .entry)) (now (j .entry)) (m .book) x)) (poke (kindOf k) a b) tt
+    (stand (answerOf n) (n .pc) (with k (now (s .exit)) (now (j .exit)) (n .book) x))
 
 -- a byte is put into a cell, if there is one
 abbrev pub Puts : ℕ → ℕ → Lent → Type 0
@@ -308,5 +318,5 @@ abbrev pub found : Mark → calls.Find
 found r = foundAt (r .words) (r .pc)
 
 -- it is found among the used words of a journal, by an image of n bytes and its writable groups; or its address is 0
-abbrev pub Finds : ℕ → ℕ → Lent → ℕ → Mark → Type 0
-Finds n w j u r = (found r ≡ calls.scan (areaOf n w) u (now (j .entry))) × (r .words ≡ 0 → r .pc ≡ 0)
+abbrev pub Finds : ℕ → ℕ → Lent → Book → Mark → Type 0
+Finds n w j b r = (found r ≡ calls.scan (areaOf n w) (b .used) (turned (b .ring) (b .place) (now (j .entry)))) × (r .words ≡ 0 → r .pc ≡ 0)

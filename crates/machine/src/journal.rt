@@ -4,10 +4,13 @@ use crate::cells;
 use crate::grom;
 use crate::state;
 use crate::state::Now;
+use ring::book;
+use ring::book::Book;
 ghost use mathlib.Core.Path.{_≡_};
-ghost use Prim.Native.Nat.{ℕ, _≤_};
+ghost use Prim.Native.Nat.{_≤_};
 ghost use lib.ListN.{length};
 ghost use Rattle.rules.specs.Machine.{areaOf};
+ghost use Rattle.ring.specs.declared.book.Book as declared;
 ghost use Rattle.rules.specs.Journal as words;
 ghost use Rattle.rules.specs.Journal.{note, restore, undoTop};
 ghost use Rattle.machine.specs.Meaning.{_&_, Image, Pad, Vram, Regs, Journal, Marks, Puts, Became, Finds};
@@ -16,15 +19,16 @@ ghost use Rattle.machine.specs.Meaning.{_&_, Image, Pad, Vram, Regs, Jou
 pub fn take_mark(journal: &mut [u32], m: Now, pc: u16) -> Now
     ensures { λ r. ⌜ Marks pc (Journal journal) m r ⌝ }
 {
-    let used = m.used;
+    let book = m.book;
     if m.answer != 0 {
         return m;
     }
-    if journal.len() <= used {
-        return state::refused(m, Why::NoRoom);
+    let laid = book::lay_round(journal, book, number::words::mark_of(pc));
+    let kept = laid.book;
+    if !laid.done {
+        return state::refused(state::keeping(m, kept), Why::NoRoom);
     }
-    journal[used] = number::words::mark_of(pc);
-    state::laid(m)
+    state::keeping(m, kept)
 }
 
 // A byte into a cell, if there is one.
@@ -39,7 +43,7 @@ fn put(memory: &mut [u8], at: usize, b: u8)
 
 // What a word says, put back into its cell.
 fn put_back(image: &mut [u8], pad: &mut [u8], vram: &mut [u8], regs: &mut [u8], w: u32)
-    ensures { λ _. ⌜ ((u : ℕ) → Became (restore (note w)) (Image image & Pad pad & Vram vram & Regs regs) u u) ⌝ }
+    ensures { λ _. ⌜ ((b : declared.Book) → Became (restore (note w)) (Image image & Pad pad & Vram vram & Regs regs) b b) ⌝ }
 {
     let kind = number::words::kind_of(w);
     let cell = number::words::cell_of(w);
@@ -70,19 +74,20 @@ fn undo_top(
     vram: &mut [u8],
     regs: &mut [u8],
     journal: &mut [u32],
-    used: usize,
-) -> usize
-    requires { ⌜ used ≤ length (now journal) ⌝ }
-    ensures { λ r. ⌜ Became (undoTop used) (Image image & Pad pad & Vram vram & Regs regs & Journal journal) used r ⌝ }
+    b: Book,
+) -> Book
+    requires { ⌜ b .used ≤ length (now journal) ⌝ }
+    ensures { λ r. ⌜ Became (undoTop (b .used)) (Image image & Pad pad & Vram vram & Regs regs & Journal journal) b r ⌝ }
 {
+    let used = b.used;
     if used == 0 {
-        return 0;
+        return b;
     }
     let top = used - 1;
-    let w = journal[top];
-    journal[top] = 0;
+    let w = book::word_at(journal, b, top);
+    let below = book::wipe(journal, b, top);
     put_back(image, pad, vram, regs, w);
-    top
+    below
 }
 
 // The top n words, from the top down.
@@ -92,23 +97,23 @@ pub fn undo(
     vram: &mut [u8],
     regs: &mut [u8],
     journal: &mut [u32],
-    used: usize,
+    book: Book,
     n: usize,
-) -> usize
-    requires { ⌜ used ≤ length (now journal) ⌝ }
-    ensures { λ r. ⌜ Became (words.undo n) (Image image & Pad pad & Vram vram & Regs regs & Journal journal) used r ⌝ }
+) -> Book
+    requires { ⌜ book .used ≤ length (now journal) ⌝ }
+    ensures { λ r. ⌜ Became (words.undo n) (Image image & Pad pad & Vram vram & Regs regs & Journal journal) book r ⌝ }
 {
-    let mut u = used;
+    let mut b = book;
     let mut done: usize = 0;
     while done < n {
-        u = undo_top(image, pad, vram, regs, journal, u);
+        b = undo_top(image, pad, vram, regs, journal, b);
         done += 1;
     }
-    u
+    b
 }
 
 // A mark without a surplus bit, or a store's word whose address names a cell: of an image of `size` bytes, one in a writable group.
-fn sound(w: u32, size: usize, groups: u8) -> bool
+pub fn sound(w: u32, size: usize, groups: u8) -> bool
     ensures { λ r. ⌜ r ≡ words.sound (areaOf size groups) (note w) ⌝ }
 {
     let kind = number::words::kind_of(w);
@@ -141,14 +146,15 @@ pub struct Mark {
     pub pc: u16,
 }
 
-pub fn find(journal: &[u32], used: usize, size: usize, groups: u8) -> Mark
-    requires { ⌜ used ≤ length (now journal) ⌝ }
-    ensures { λ r. ⌜ Finds size groups journal used r ⌝ }
+pub fn find(journal: &[u32], b: Book, size: usize, groups: u8) -> Mark
+    requires { ⌜ b .used ≤ length (now journal) ⌝ }
+    ensures { λ r. ⌜ Finds size groups journal b r ⌝ }
 {
+    let used = b.used;
     let mut u = used;
     while u != 0 {
         let top = u - 1;
-        let w = journal[top];
+        let w = book::word_at(journal, b, top);
         let fine = sound(w, size, groups);
         if !fine {
             return Mark { words: 0, pc: 0 };

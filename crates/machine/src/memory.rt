@@ -4,6 +4,7 @@ use crate::cells;
 use crate::grom;
 use crate::state;
 use crate::state::Now;
+use ring::book;
 ghost use mathlib.Core.Path.{_≡_};
 ghost use Rattle.rules.specs.Answers;
 ghost use Rattle.rules.specs.Answers.{answerFor};
@@ -85,7 +86,7 @@ pub fn store(memory: &mut [u8], journal: &mut [u32], m: Now, k: Memory, at: usiz
     requires { ⌜ IsOf k memory × IsNear k at ⌝ }
     ensures { λ r. ⌜ Stores k at b memory journal m r ⌝ }
 {
-    let used = m.used;
+    let book = m.book;
     let limit = reach(k, memory.len());
     let why = outside(k, at);
     let allowed = may_store(k, at);
@@ -98,12 +99,13 @@ pub fn store(memory: &mut [u8], journal: &mut [u32], m: Now, k: Memory, at: usiz
     if !allowed {
         return state::refused(m, Why::ReadOnly);
     }
-    if journal.len() <= used {
-        return state::refused(m, Why::NoRoom);
-    }
     let old = memory[at];
     let a = at as u32;
-    journal[used] = number::words::pack(kind(k), a, old);
+    let laid = book::lay(journal, book, number::words::pack(kind(k), a, old));
+    let kept = laid.book;
+    if !laid.done {
+        return state::refused(state::keeping(m, kept), Why::NoRoom);
+    }
     memory[at] = b;
-    state::laid(m)
+    state::keeping(m, kept)
 }

@@ -1,16 +1,16 @@
 // The state, and the few functions that make one; a value given, a jump and a need.
 use crate::answers;
 use crate::answers::Why;
+use ring::book::Book;
 ghost use mathlib.Core.Path.{_≡_};
-ghost use Prim.Native.Nat.{_+_, _<_, _^_};
 ghost use Rattle.rules.specs.Answers.{answerFor};
 ghost use Rattle.rules.specs.Rules;
 ghost use Rattle.rules.specs.Rules.{give, goto};
-ghost use Rattle.machine.specs.Meaning.{Does, Gives, Nothing, whyOf, began, refusedBy, readBy, laidBy};
+ghost use Rattle.machine.specs.Meaning.{Does, Gives, Nothing, whyOf, began, refusedBy, readBy, keptBy};
 
-// The used words, pc, the word or the byte that was read last, and the answer so far with its address: the widest first, so that it takes 16 bytes.
+// The journal's book, pc, the word or the byte that was read last, and the answer so far with its address.
 pub struct Now {
-    pub used: usize,
+    pub book: Book,
     pub pc: u16,
     pub word: u16,
     pub address: u16,
@@ -19,12 +19,12 @@ pub struct Now {
 }
 
 // The state in which a step begins.
-pub fn begin(pc: u16, used: usize) -> Now
-    ensures { λ r. ⌜ r ≡ began pc used ⌝ }
+pub fn begin(pc: u16, book: Book) -> Now
+    ensures { λ r. ⌜ r ≡ began pc book ⌝ }
 {
     Now {
         pc,
-        used,
+        book,
         answer: 0,
         address: 0,
         byte: 0,
@@ -35,9 +35,10 @@ pub fn begin(pc: u16, used: usize) -> Now
 pub fn refused(m: Now, why: Why) -> Now
     ensures { λ r. ⌜ r ≡ refusedBy (answerFor (whyOf why)) m ⌝ }
 {
+    let book = m.book;
     Now {
         pc: m.pc,
-        used: m.used,
+        book,
         answer: answers::number(why),
         address: answers::address(why),
         byte: 0,
@@ -49,9 +50,10 @@ pub fn refused(m: Now, why: Why) -> Now
 pub fn read(m: Now, pc: u16, b: u8) -> Now
     ensures { λ r. ⌜ r ≡ readBy pc b m ⌝ }
 {
+    let book = m.book;
     Now {
         pc,
-        used: m.used,
+        book,
         answer: m.answer,
         address: m.address,
         byte: b,
@@ -59,15 +61,13 @@ pub fn read(m: Now, pc: u16, b: u8) -> Now
     }
 }
 
-// One journal word more is used.
-pub fn laid(m: Now) -> Now
-    requires { ⌜ m .used < 2 ^ 63 ⌝ }
-    ensures { λ r. ⌜ r ≡ laidBy m ⌝ }
+// The journal has changed: its book does.
+pub fn keeping(m: Now, book: Book) -> Now
+    ensures { λ r. ⌜ r ≡ keptBy book m ⌝ }
 {
-    let next = m.used + 1;
     Now {
         pc: m.pc,
-        used: next,
+        book,
         answer: m.answer,
         address: m.address,
         byte: 0,
@@ -85,9 +85,10 @@ pub fn give_byte(m: Now, b: u8) -> Now
 pub fn give_word(m: Now, w: u16) -> Now
     ensures { λ r. ⌜ (r .word ≡ w) × Gives (r .word) (give w) Nothing m r ⌝ }
 {
+    let book = m.book;
     Now {
         pc: m.pc,
-        used: m.used,
+        book,
         answer: m.answer,
         address: m.address,
         byte: 0,

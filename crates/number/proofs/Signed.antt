@@ -13,7 +13,7 @@ use mir.ValLaws.{toZ-ofZ}
 use borrow.Author.Tests.{ltb-true, lt-ltb, leb-true, leb-false, le-leb}
 use Rattle.rules.specs.Machine.{pick, _also_}
 use Rattle.rules.specs.Coincidence.{signed, difference, inside}
-use Rattle.rules.proofs.Fits.{false-true, both}
+use Rattle.rules.proofs.Tests.{false-true, both}
 
 -- ---- what 16 bits hold
 

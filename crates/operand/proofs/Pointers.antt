@@ -7,7 +7,7 @@ use native.Mathlib.Omega.{arith}
 use lib.Dec.{leb}
 use borrow.Author.Tests.{leb-true}
 use Rattle.rules.specs.Instructions.{onSubStack}
-use Rattle.rules.proofs.Fits.{both}
+use Rattle.rules.proofs.Tests.{both}
 
 -- it lies from >80 to >9E
 on-stack : (p : ℕ) → onSubStack p ≡ true → (0x80 ≤ p) × (p ≤ 0x9E)

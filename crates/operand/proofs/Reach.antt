@@ -35,9 +35,9 @@ module _ (n : ℕ) (c : Cell) {a : Answer} {pc : ℕ} {m : Mem} where
   reached-out z h e = refuses _ z e h
 
 -- an operand as the code takes it apart, by its place and its state
-pub apart : {w : ℕ} {i p v g j : List ℕ} {s : Stand} {n : Now} {l : Place} {r : Rule Cell} (q : Operand)
+pub apart : {w : ℕ} {i p v g : List ℕ} (j : List ℕ) {s : Stand} {n : Now} {l : Place} {r : Rule Cell} (q : Operand)
     → Goes s r (cellOf (placeOf q)) (standing i w p v g j (nowOf q)) → n ≡ nowOf q → l ≡ placeOf q → Goes s r (cellOf l) (standing i w p v g j n)
-apart {w = w} {i = i} {p = p} {v = v} {g = g} {j = j} {s = s} {l = l} {r = r} q e en el =
+apart {w = w} {i = i} {p = p} {v = v} {g = g} j {s = s} {l = l} {r = r} q e en el =
     subst (λ (x : Now). Goes s r (cellOf l) (standing i w p v g j x)) (sym en)
     (subst (λ (y : Place). Goes s r (cellOf y) (standing i w p v g j (nowOf q))) (sym el) e)
 

@@ -6,6 +6,7 @@ use Prim.Native.Nat.{ℕ}
 use Rattle.rules.specs.Arithmetic.{parity}
 use Rattle.rules.specs.Cards.{cards, facts, bufferFacts, addressFacts, coincFacts, everyPasses}
 use Rattle.rules.specs.Gram.{chip, moved, gramFacts, wrapped, holds, everyHolds, takenBack, backFacts}
+use Rattle.rules.specs.Rings as rings
 use Rattle.rules.proofs.Compute.{everyRule}
 
 pub cards-pass : everyPasses cards ≡ true
@@ -49,3 +50,7 @@ gram-back = refl
 pub back-facts : backFacts ≡ true
 unfolding everyRule
 back-facts = refl
+
+pub rings-hold : rings.everyPasses rings.ringFacts ≡ true
+unfolding everyRule rings.passes rings.everyPasses
+rings-hold = refl

@@ -1,44 +1,34 @@
--- Test 11 of a step and of a step back: what a call is where it passes, and that an accepted step leaves parts that pass it.
-use mathlib.Core.Path.{_≡_, refl, _∙_, sym, subst}
+-- Test 11 of a step and of a step back: what a call is where it passes, and what a machine must keep to pass it again.
+use mathlib.Core.Path.{_≡_, refl}
 use mathlib.Core.Bool.{Bool, true, false}
-use mathlib.Core.List.{List}
-use Prim.Native.Nat.{ℕ, _≤_}
-use lib.Dec.{eqb}
-use lib.ListN.{length, length-set}
-use borrow.Author.Tests.{le-leb, leb-true}
-use Rattle.rules.specs.Machine.{pick, _also_, cpu, vdp, register, grom, size, Mem, State}
+use Prim.Native.Nat.{ℕ, zero, suc, _+_, _%_, _≤_}
+use native.Mathlib.Nat.{mod-lt}
+use native.Mathlib.Omega.{arith}
+use lib.Dec.{eqb, ltb}
+use lib.ListN.{length}
+use borrow.Author.Tests.{le-leb, leb-true, lt-ltb}
+use Rattle.rules.specs.Machine.{pick, _also_, Kind, cpu, vdp, register, grom, size, Mem, State, cells}
 use Rattle.rules.specs.Answers.{answerFor, wrongLength}
-use Rattle.rules.specs.Journal.{markWord, lay, Store}
-use Rattle.rules.specs.Calls.{partsFit, fits, Reply, refused, fitStep, step, stepStores, fitBack, stepBack}
+use Rattle.rules.specs.Journal.{placeOn}
+use Rattle.rules.specs.Calls.{partsFit, placeFits, fits, Reply, refused, fitStep, step, stepStores, fitBack, stepBack}
 use Rattle.rules.specs.Demands.{Good, Accepted}
-use Rattle.rules.proofs.Stores.{lengths-after, journal-length, used-fits}
-use Rattle.rules.proofs.Clear.{clearS, length-keep}
-use Rattle.rules.proofs.Steps.{Stepped, Settled, settled, clearR, step-clear, back-clear}
+use Rattle.rules.proofs.Tests.{both, together}
+use Rattle.rules.proofs.Steps.{Settled, settled}
 
-abbrev Is : Bool → Type 0
-Is true = Unit {0}
-Is false = ⊥
+-- ---- used count and place alone can change
 
-pub false-true : false ≡ true → ⊥
-false-true h = subst Is (sym h) tt
+pub fits-used : (m : Mem) → fits m ≡ true → m .used ≤ length (m .journal)
+unfolding partsFit
+fits-used m h = leb-true (m .used) (length (m .journal)) (both (both (both (both (both (both h .1) .0) .1) .1) .1) .1)
 
--- of two tests that hold together, each does
-pub both : {b c : Bool} → (b also c) ≡ true → (b ≡ true) × (c ≡ true)
-unfolding _also_
-both {b = true} h = (refl, h)
-both {b = false} h = absurd (false-true h)
+pub fits-words : (m : Mem) → fits m ≡ true → length (m .journal) ≤ 1048576
+unfolding partsFit
+fits-words m h = leb-true (length (m .journal)) 1048576 (both (both (both (both (both (both h .1) .0) .1) .1) .1) .0)
 
-pub together : {b c : Bool} → b ≡ true → c ≡ true → (b also c) ≡ true
-unfolding _also_
-together {c = c} e f = rw e f
-
--- ---- the used count alone can change
+pub fits-place : (m : Mem) → fits m ≡ true → placeFits (m .ring) (m .place) (length (m .journal)) ≡ true
+fits-place m h = both (both h .1) .1
 
 module _ (p v r j u : ℕ) where
-  parts-used : partsFit p v r j u ≡ true → u ≤ j
-  unfolding partsFit
-  parts-used h = leb-true u j (both (both (both (both h .1) .1) .1) .1)
-
   parts-other : (w : ℕ) → w ≤ j → partsFit p v r j u ≡ true → partsFit p v r j w ≡ true
   unfolding partsFit
   parts-other w l h =
@@ -47,15 +37,29 @@ module _ (p v r j u : ℕ) where
       let regs : (eqb r (size register) ≡ true) × _ = both (vrams .1) in
       together (pads .0) (together (vrams .0) (together (regs .0) (together (both (regs .1) .0) (le-leb w j l))))
 
--- an accepted step leaves parts that fit, if they did
-pub fits-after : {s t : State} {ss : List Store} → Stepped s ss t → fits (s .mem) ≡ true → fits (t .mem) ≡ true
-fits-after {s} {t} h f =
-    let m : Mem = s .mem in
-    let l : length (lay (markWord (s .pc)) m .journal) ≡ length (m .journal) = length-set (m .journal) (m .used) (markWord (s .pc)) in
-    let k : t .mem .used ≤ length (t .mem .journal) = used-fits (h .makes) (rw l (h .word-left)) in
-    let e : length (t .mem .journal) ≡ length (m .journal) = journal-length (h .makes) ∙ l in
-    rw (lengths-after grom (h .makes), lengths-after cpu (h .makes), lengths-after vdp (h .makes), lengths-after register (h .makes), e)
-    (together (both f .0) (parts-other _ _ _ _ (m .used) (t .mem .used) (subst (λ (n : ℕ). t .mem .used ≤ n) e k) (both f .1)))
+-- a machine with as many cells and words as one that fits
+pub record Like (m m′ : Mem) : Type 0 where
+  pub cells : (k : Kind) → length (cells k m′) ≡ length (cells k m)
+  pub words : length (m′ .journal) ≡ length (m .journal)
+  pub mode : m′ .ring ≡ m .ring
+  pub used : m′ .used ≤ length (m .journal)
+  pub place : placeFits (m .ring) (m′ .place) (length (m .journal)) ≡ true
+
+pub fits-like : {m m′ : Mem} → Like m m′ → fits m ≡ true → fits m′ ≡ true
+fits-like {m} {m′} h f =
+    rw (h .cells grom, h .cells cpu, h .cells vdp, h .cells register, h .words, h .mode)
+    (together (both f .0) (together (parts-other _ _ _ _ (m .used) (m′ .used) (h .used) (both (both f .1) .0)) (h .place)))
+
+-- a place that fits, some words on
+pub place-fits : (ring : Bool) (d a c : ℕ) → d ≤ c → placeFits ring a c ≡ true → placeFits ring (placeOn d c a) c ≡ true
+unfolding placeFits
+place-fits ring zero a c l h = h
+place-fits ring (suc d) a c l h = place-fits ring d ((a + 1) % c) c (omega arith) (go ring (eqb ((a + 1) % c) 0))
+  where
+    go : (r z : Bool) → pick r (pick z true (ltb ((a + 1) % c) c)) true ≡ true
+    go true true = refl
+    go true false = lt-ltb ((a + 1) % c) c (mod-lt (a + 1) (omega arith))
+    go false z = refl
 
 -- ---- the calls
 
@@ -81,24 +85,8 @@ module _ (s : State) where
   accepted-fits = step-cases (λ r. Accepted r → fits (s .mem) ≡ true) (λ e a. e) (λ e a. absurd a)
 
   pub step-settled : Good s → Settled s (stepStores s) (step s)
-  step-settled g = step-cases (Settled s (stepStores s)) (λ e. settled s g) (λ e. record { taken = 0; same = refl })
+  step-settled g = step-cases (Settled s (stepStores s)) (λ e. settled s g (fits-used (s .mem) e)) (λ e. tt)
 
 pub back-fit : (s : State) → fits (s .mem) ≡ true → stepBack s ≡ fitBack s
 unfolding stepBack
 back-fit s h = rw h
-
--- ---- the journal above the used words plays no part in them
-
-clearR-pick : (c : Bool) (r q : Reply) → clearR (pick c r q) ≡ pick c (clearR r) (clearR q)
-clearR-pick true r q = refl
-clearR-pick false r q = refl
-
-pub call-clear : (s : State) → clearR (step s) ≡ step (clearS s)
-unfolding step
-call-clear s =
-    clearR-pick (fits (s .mem)) (fitStep s) (refused (answerFor wrongLength) s) ∙ rw (step-clear s, length-keep (s .mem .used) (s .mem .journal))
-
-pub call-back-clear : (s : State) → clearR (stepBack s) ≡ stepBack (clearS s)
-unfolding stepBack
-call-back-clear s =
-    clearR-pick (fits (s .mem)) (fitBack s) (refused (answerFor wrongLength) s) ∙ rw (back-clear s, length-keep (s .mem .used) (s .mem .journal))

@@ -3,7 +3,7 @@
 use mathlib.Core.Path.{_≡_, refl, ap, subst}
 use mathlib.Core.Bool.{Bool, true, false}
 use Prim.Native.Nat.{ℕ}
-use Rattle.rules.specs.Machine.{pick, Mem, State, state}
+use Rattle.rules.specs.Machine.{pick, Mem, State, state, atRest}
 use Rattle.rules.specs.Answers.{Why, Answer, answerFor}
 use Rattle.rules.specs.Rules.{Act, next, Rule, give, refuse, act, Out, got, stopped, then, perform, exec, after}
 use Rattle.rules.specs.Opcodes.{Class, stops, does, classOf}
@@ -21,6 +21,10 @@ pub record Keeps (Q : State → State → Type 0) (F : Answer → Mem → Mem �
   pub acts : (q : Act) (s t : State) → Q s t → Both Q F (perform q (s .pc) (s .mem)) (perform q (t .pc) (t .mem))
   pub marks : (pc : ℕ) (s t : State) → Q s t → Both Q F (takeMark pc (s .pc) (s .mem)) (takeMark pc (t .pc) (t .mem))
   pub refuses : (why : Why) (s t : State) → Q s t → F (answerFor why) (s .mem) (t .mem)
+
+-- a state in which no step is being made: every attempt begins so
+abbrev pub rested : State → State
+rested s = state (s .pc) (atRest (s .mem))
 
 module _ {Q : State → State → Type 0} {F : Answer → Mem → Mem → Type 0} where
   then-keeps : {A B : Type 0} {o p : Out A} (f g : A → ℕ → Mem → Out B) → Both Q F o p
@@ -40,11 +44,12 @@ module _ {Q : State → State → Type 0} {F : Answer → Mem → Mem → Type 0
     begin-keeps pc (stops why) s t h = off (keeps .refuses why s t h)
     begin-keeps pc (does x) s t h = then-keeps (λ _. exec (ruleOf x)) (λ _. exec (ruleOf x)) (keeps .marks pc s t h) (λ _. exec-keeps (ruleOf x))
 
-    pub attempt-keeps : (s t : State) → s .pc ≡ t .pc → Q s t → Both Q F (attempt s) (attempt t)
+    pub attempt-keeps : (s t : State) → s .pc ≡ t .pc → Q (rested s) (rested t) → Both Q F (attempt s) (attempt t)
     unfolding attempt
     attempt-keeps s t e h =
-        subst (λ (pc : ℕ). Both Q F (attempt s) (then (perform next (t .pc) (t .mem)) (λ op. begin pc (classOf op)))) e
-        (then-keeps (λ op. begin (s .pc) (classOf op)) (λ op. begin (s .pc) (classOf op)) (keeps .acts next s t h) (λ op. begin-keeps (s .pc) (classOf op)))
+        subst (λ (pc : ℕ). Both Q F (attempt s) (then (perform next (t .pc) (atRest (t .mem))) (λ op. begin pc (classOf op)))) e
+        (then-keeps (λ op. begin (s .pc) (classOf op)) (λ op. begin (s .pc) (classOf op)) (keeps .acts next (rested s) (rested t) h)
+        (λ op. begin-keeps (s .pc) (classOf op)))
 
 -- ---- of one machine
 
@@ -90,5 +95,5 @@ module _ {P : State → Type 0} {F : Answer → Type 0} (holds : Holds P F) wher
   pub exec-holds : {A : Type 0} (r : Rule A) (s : State) → P s → Held P F (exec r (s .pc) (s .mem))
   exec-holds r s h = alone (exec r (s .pc) (s .mem)) (exec-keeps keeps-itself r s s (refl, h))
 
-  pub attempt-holds : (s : State) → P s → Held P F (attempt s)
+  pub attempt-holds : (s : State) → P (rested s) → Held P F (attempt s)
   attempt-holds s h = alone (attempt s) (attempt-keeps keeps-itself s s refl (refl, h))

@@ -8,7 +8,7 @@ use lib.Dec.{ltb}
 use lib.ListN.{length}
 use Rattle.rules.specs.Machine.{pick, extent, writable, area, State}
 use Rattle.rules.specs.Answers.{Why, Answer, well, answerFor, offGrom, noRoom, readOnly, wrongLength, noRecord, outside}
-use Rattle.rules.specs.Rules.{Act, next, ask, jump, load, store, Rule, Out, got, stopped, room, perform, exec}
+use Rattle.rules.specs.Rules.{Act, next, ask, jump, load, store, Rule, Out, got, stopped, room, spare, perform, exec}
 use Rattle.rules.specs.Calls.{fits, Reply, done, refused, answer, takeMark, attempt, settle, fitStep, step, Report, report, steps, run}
 use Rattle.rules.specs.Calls.{Find, found, lost, scan, backTo, fitBack, stepBack}
 use Rattle.rules.specs.Demands.{Listed, Accepted, forward, Ends, full, cut}
@@ -33,12 +33,12 @@ named-act (jump a) s h = tt
 named-act (load k a) s h = by-test Any Listed (ltb a (extent (area (s .mem)) k)) _ _ tt (by-name (outside k a))
 named-act (store k a b) s h =
     by-test Any Listed (ltb a (extent (area (s .mem)) k)) _ _
-    (by-test Any Listed (writable (area (s .mem)) k a) _ _ (by-test Any Listed (room (s .mem)) _ _ tt (by-name noRoom)) (by-name readOnly))
+    (by-test Any Listed (writable (area (s .mem)) k a) _ _ (by-test Any Listed (room (spare (s .mem))) _ _ tt (by-name noRoom)) (by-name readOnly))
     (by-name (outside k a))
 
 named-mark : (pc : ℕ) (s : State) → Any s → Held Any Listed (takeMark pc (s .pc) (s .mem))
 unfolding takeMark
-named-mark pc s h = by-test Any Listed (room (s .mem)) _ _ tt (by-name noRoom)
+named-mark pc s h = by-test Any Listed (room (spare (s .mem))) _ _ tt (by-name noRoom)
 
 named : Holds Any Listed
 named = record { acts = named-act; marks = named-mark; refuses = by-name }

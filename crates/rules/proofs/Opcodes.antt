@@ -10,7 +10,8 @@ use borrow.Author.Tests.{eqb-true}
 use Rattle.rules.specs.Machine.{pick, _also_, bit}
 use Rattle.rules.specs.Answers.{Why, ended, noSuch, needsHost, offCpu, offVdp, offGrom, offStack, tooLong, noRoom, wrongLength, noRecord, offRegister, tooCoarse, readOnly, number}
 use Rattle.rules.specs.Opcodes.{Class, stops, does, classOf, gramClass, moveClass}
-use Rattle.rules.proofs.Fits.{false-true, both}
+use Rattle.rules.proofs.Tests.{false-true}
+use Rattle.rules.proofs.Tests.{both}
 
 -- ---- 01's lists
 

@@ -8,10 +8,7 @@ use lib.ListN.{length}
 use Rattle.rules.specs.Machine.{State}
 use Rattle.rules.specs.Answers.{answerFor, wrongLength}
 use Rattle.rules.specs.Calls.{fits, Reply, done, refused, left, step, stepStores, Report, report, onto, steps, run}
-use Rattle.rules.specs.Demands.{Good, Accepted, AllAccepted, forward, total, Ends, full, cut}
-use Rattle.rules.proofs.Stores.{used-after}
-use Rattle.rules.proofs.Steps.{Stepped}
-use Rattle.rules.proofs.History.{stepped-forward}
+use Rattle.rules.specs.Demands.{Accepted, AllAccepted, forward, total, Ends, full, cut}
 
 -- ---- the first step comes first
 
@@ -53,11 +50,3 @@ run-ends n s h = rw h (steps-end n s)
 pub run-unfit : (n : ℕ) (s : State) → fits (s .mem) ≡ false → run n s ≡ report (answerFor wrongLength) 0 0 s
 unfolding run
 run-unfit n s h = rw h
-
--- The count of stores is no invention: the journal has grown by a mark for each step and a word for each store.
-pub used-run : (s : State) → Good s → (n : ℕ) → AllAccepted n s → forward n s .mem .used ≡ s .mem .used + n + total n s
-used-run s g zero a = omega arith
-used-run s g (suc n) a =
-    let t : State = forward n s in
-    let h : Stepped t (stepStores t) (forward (suc n) s) = stepped-forward s g n a in
-    omega (arith, used-run s g n (a .0), used-after (h .makes))

@@ -1,26 +1,26 @@
--- A step and a step back, past test 11: how each ends, that the one undoes the other, and that the journal above the used words plays no part.
-use mathlib.Core.Path.{_≡_, refl, _∙_, ap, ap₂, sym}
+-- A step and a step back, past test 11: how each ends, and that the one undoes the other.
+use mathlib.Core.Path.{_≡_, refl, _∙_, ap, ap₂, sym, subst}
 use mathlib.Core.Bool.{Bool, true, false}
-use mathlib.Core.List.{List, []}
-use Prim.Native.Nat.{ℕ, zero, suc, _+_, _-_, _%_, _<_}
-use native.Mathlib.Nat.{mod-lt, le-refl, sub-self}
+use mathlib.Core.List.{List, [], _∷_, map}
+use Prim.Native.Nat.{ℕ, zero, suc, _+_, _-_, _≤_, _<_}
+use native.Mathlib.Nat.{mod-lt, le-refl}
 use native.Mathlib.Omega.{arith}
 use lib.Dec.{ltb, lit<}
-use lib.ListN.{length, getD, set}
-use lib.Seq.{getD-set-same, getD-set-other}
-use borrow.Author.Tests.{ltb-true, lt-ltb}
-use Rattle.rules.specs.Machine.{pick, _also_, Kind, Area, extent, writable, Mem, area, State, state, onward}
+use lib.ListN.{length, getD, set, length-set}
+use lib.Seq.{sets, getD-set-same, getD-set-other}
+use borrow.Author.Tests.{lt-ltb}
+use Rattle.rules.specs.Machine.{pick, _also_, Kind, Area, extent, writable, Mem, area, State, state, beside, over, atRest, onward}
 use Rattle.rules.specs.Answers.{Answer, answerFor, noRoom, offGrom}
-use Rattle.rules.specs.Journal.{markWord, lay, Store, wordOf, make, Note, stood, mark, note, undoTop, undo, blanked}
-use Rattle.rules.specs.Rules.{Act, next, ask, jump, load, store, Deed, Out, got, stopped, then, room, perform, after, stores, storesThen}
+use Rattle.rules.specs.Journal.{markWord, lay, Store, wordOf, make, Note, stood, mark, note, undoTop, undo, blank, blanked, forget}
+use Rattle.rules.specs.Rules.{Act, next, ask, jump, load, store, Deed, Out, got, stopped, then, room, spare, perform, after, stores, storesThen}
 use Rattle.rules.specs.Opcodes.{Class, stops, does, classOf}
 use Rattle.rules.specs.Tasks.{ruleOf}
-use Rattle.rules.specs.Calls.{Reply, done, refused, takeMark, begin, attempt, settle, fitStep, beginStores, stepStores, Find, found, lost, further, seen, scan, backTo, fitBack}
+use Rattle.rules.specs.Calls.{Reply, done, refused, takeMark, begin, attempt, taken, emptied, settle, fitStep, beginStores, stepStores, Find, found, further, seen, scan, backTo, fitBack}
 use Rattle.rules.specs.Demands.{Bytes, Good}
-use Rattle.rules.proofs.Stores.{memOf, Made, none, one, makes, used-after, area-after}
-use Rattle.rules.proofs.Undo.{note-mark, note-store, bytes-after, undo-lay, rollback}
+use Rattle.rules.proofs.Stores.{memOf, Made, none, one, used-after, older-after, place-after, ring-after, journal-after, area-after}
+use Rattle.rules.proofs.Laid.{Sane, not-found, Late, late-rule}
+use Rattle.rules.proofs.Undo.{note-mark, note-store, bytes-after, set-blank, undo-lay, rollback}
 use Rattle.rules.proofs.Kept.{Held, by-test, Holds, attempt-holds}
-use Rattle.rules.proofs.Clear.{keep, clear, clearS, cleared, getD-keep, clear-blanked, blanked-clear, attempt-clear, undo-clear}
 
 -- ---- the address stays one of 16 bits
 
@@ -38,11 +38,11 @@ in16-act (jump a) s h = mod-lt a (lit< tt)
 in16-act (load k a) s h = by-test In16 Any (ltb a (extent (area (s .mem)) k)) _ _ h tt
 in16-act (store k a b) s h =
     by-test In16 Any (ltb a (extent (area (s .mem)) k)) _ _
-    (by-test In16 Any (writable (area (s .mem)) k a) _ _ (by-test In16 Any (room (s .mem)) _ _ h tt) tt) tt
+    (by-test In16 Any (writable (area (s .mem)) k a) _ _ (by-test In16 Any (room (spare (s .mem))) _ _ h tt) tt) tt
 
 in16-mark : (pc : ℕ) (s : State) → In16 s → Held In16 Any (takeMark pc (s .pc) (s .mem))
 unfolding takeMark
-in16-mark pc s h = by-test In16 Any (room (s .mem)) _ _ h tt
+in16-mark pc s h = by-test In16 Any (room (spare (s .mem))) _ _ h tt
 
 in16 : Holds In16 Any
 in16 = record { acts = in16-act; marks = in16-mark; refuses = λ why. tt }
@@ -51,18 +51,18 @@ in16 = record { acts = in16-act; marks = in16-mark; refuses = λ why. tt }
 
 pub data Tried (pc : ℕ) (m : Mem) : List Store → Out (Unit {0}) → Type 0 where
   early : {a : Answer} → Tried pc m [] (stopped a m)
-  late : {ss : List Store} {o : Out (Unit {0})} → m .used < length (m .journal) → Made (lay (markWord pc) m) ss (memOf o) → Tried pc m ss o
+  late : {ss : List Store} {o : Out (Unit {0})} → Late pc m ss (memOf o) → Tried pc m ss o
 
-module _ (pc : ℕ) (m : Mem) where
+module _ (pc : ℕ) (m : Mem) (s : Sane m) where
   -- what is taken where a word is left, and where none is
   took : ℕ → Bool → Out (Unit {0})
-  took pc₁ c = pick c (got tt pc₁ (lay (markWord pc) m)) (stopped (answerFor noRoom) m)
+  took pc₁ c = pick c (got tt pc₁ (lay (markWord pc) (spare m))) (stopped (answerFor noRoom) (spare m))
 
-  tried-does : (r : Deed) (pc₁ : ℕ) (c : Bool) → room m ≡ c
+  tried-does : (r : Deed) (pc₁ : ℕ) (c : Bool) → room (spare m) ≡ c
       → Tried pc m (storesThen (took pc₁ c) (λ _ pc₂ m₂. stores r pc₂ m₂)) (after (took pc₁ c) r)
   unfolding took after
-  tried-does r pc₁ true e = late (ltb-true _ _ e) (makes r pc₁ (lay (markWord pc) m))
-  tried-does r pc₁ false e = early
+  tried-does r pc₁ true e = late (late-rule pc pc₁ m r s e)
+  tried-does r pc₁ false e = subst (λ (x : Mem). Tried pc m [] (stopped (answerFor noRoom) x)) (sym (not-found m s e)) early
 
   pub tried-begin : (c : Class) (pc₁ : ℕ) → Tried pc m (beginStores pc c pc₁ m) (begin pc c pc₁ m)
   unfolding begin beginStores takeMark took
@@ -76,34 +76,56 @@ module _ (pc : ℕ) (m : Mem) where
   tried-next true = tried-begin (classOf (getD (m .image) pc 0)) (onward pc)
   tried-next false = early
 
-  pub tried : Tried pc m (stepStores (state pc m)) (attempt (state pc m))
-  unfolding attempt stepStores perform
-  tried = tried-next (ltb pc (length (m .image)))
+pub rest-sane : (m : Mem) → m .used ≤ length (m .journal) → Sane (atRest m)
+rest-sane m h = record { used = h; older = omega arith }
+
+pub tried : (s : State) → s .mem .used ≤ length (s .mem .journal) → Tried (s .pc) (atRest (s .mem)) (stepStores s) (attempt s)
+unfolding attempt stepStores perform
+tried s h = tried-next (s .pc) (atRest (s .mem)) (rest-sane (s .mem) h) (ltb (s .pc) (length (s .mem .image)))
 
 -- ---- what a step leaves
 
 -- it was done: a mark, then its stores
 pub record Stepped (s : State) (ss : List Store) (t : State) : Type 0 where
-  pub word-left : s .mem .used < length (s .mem .journal)
-  pub makes : Made (lay (markWord (s .pc)) (s .mem)) ss (t .mem)
+  pub end : Mem
+  pub late : Late (s .pc) (atRest (s .mem)) ss end
+  pub rests : t .mem ≡ atRest end
   pub good : Good t
-
--- it was refused: all as before, with 0 in the words that had been taken
-pub record Unchanged (s t : State) : Type 0 where
-  pub taken : ℕ
-  pub same : t ≡ state (s .pc) (blanked taken (s .mem))
 
 abbrev pub Settled : State → List Store → Reply → Type 0
 Settled s ss (done t) = Stepped s ss t
-Settled s ss (refused n t) = Unchanged s t
+Settled s ss (refused n t) = Unit {0}
 
-settle-is : (s : State) (ss : List Store) (o : Out (Unit {0})) → Good s → Tried (s .pc) (s .mem) ss o → Held In16 Any o → Settled s ss (settle s o)
-settle-is s ss (got a pc₁ m₁) g (late h t) k = record { word-left = h; makes = t; good = record { address = k; bytes = bytes-after t (g .bytes) } }
-settle-is s ss (stopped n m₁) g t k = record { taken = m₁ .used - s .mem .used; same = refl }
+settle-is : (s : State) (ss : List Store) (o : Out (Unit {0})) → Good s → Tried (s .pc) (atRest (s .mem)) ss o → Held In16 Any o → Settled s ss (settle s o)
+settle-is s ss (got a pc₁ m₁) g (late h) k =
+    let b : Bytes m₁ = bytes-after (h .makes) (g .bytes) in
+    record { end = m₁; late = h; rests = refl; good = record { address = k; bytes = b } }
+settle-is s ss (stopped n m₁) g t k = tt
 
-pub settled : (s : State) → Good s → Settled s (stepStores s) (fitStep s)
+pub settled : (s : State) → Good s → s .mem .used ≤ length (s .mem .journal) → Settled s (stepStores s) (fitStep s)
 unfolding fitStep
-settled s g = settle-is s (stepStores s) (attempt s) g (tried (s .pc) (s .mem)) (attempt-holds in16 s (g .address))
+settled s g h = settle-is s (stepStores s) (attempt s) g (tried s h) (attempt-holds in16 s (g .address))
+
+-- ---- a step undone
+
+-- the words that were laid, and 0 in their place
+blank-laid : (ss : List Store) (j : List ℕ) (u : ℕ) → blank (length ss) u (sets j u (map wordOf ss)) ≡ blank (length ss) u j
+blank-laid [] j u = refl
+blank-laid (s ∷ ss) j u =
+    ap (λ (l : List ℕ). set l u 0) (blank-laid ss (set j u (wordOf s)) (suc u)) ∙ set-blank (length ss) (suc u) j u (wordOf s) 0 (le-refl (suc u))
+
+-- what is left of one that has begun and is refused: what it dropped is gone, and its own words are 0
+pub emptied-late : {pc : ℕ} {m m₁ : Mem} {ss : List Store} → m .older ≡ m .used → (h : Late pc m ss m₁)
+    → over (emptied m₁) m ≡ blanked (suc (length ss)) (forget (h .dropped) m)
+emptied-late {pc} {m} {m₁} {ss} r h =
+    let j : List ℕ = forget (h .dropped) m .journal in
+    let u : ℕ = m .used - h .dropped in
+    let o : m₁ .older ≡ u = older-after (h .makes) ∙ ap (λ (n : ℕ). n - h .dropped) r in
+    let own : taken m₁ ≡ suc (length ss) = omega (arith, used-after (h .makes), o) in
+    let words : blank (taken m₁) (m₁ .older) (m₁ .journal) ≡ blank (suc (length ss)) u j =
+    ap (λ (n : ℕ). blank n (m₁ .older) (m₁ .journal)) own ∙ ap₂ (blank (suc (length ss))) o (journal-after (h .makes))
+    ∙ ap (λ (l : List ℕ). set l u 0) (blank-laid ss (set j u (markWord pc)) (suc u)) ∙ set-blank (length ss) (suc u) j u (markWord pc) 0 (le-refl (suc u)) in
+    rw (words, o, place-after (h .makes), ring-after (h .makes), r)
 
 -- the mark and the stores, undone word by word
 pub undo-step : {pc : ℕ} (m : Mem) {m′ : Mem} {ss : List Store} → pc < 65536 → Bytes m → m .used < length (m .journal) → Made (lay (markWord pc) m) ss m′
@@ -113,13 +135,15 @@ undo-step {pc} m {ss = ss} a b h t =
     ap (λ (x : Mem). undoTop (x .used) x) (rollback b t) ∙ undo-lay (length ss) (markWord pc) (mark pc) m (note-mark pc a) h
 
 -- so a refused step may be put back word by word: that gives what the rules say of it
-pub rollback-step : {pc : ℕ} {m m₁ : Mem} {ss : List Store} {a : Answer} → pc < 65536 → Bytes m → Tried pc m ss (stopped a m₁)
-    → undo (m₁ .used - m .used) m₁ ≡ blanked (m₁ .used - m .used) m
+pub rollback-step : {pc : ℕ} {m m₁ : Mem} {ss : List Store} {a : Answer} → pc < 65536 → Bytes m → m .older ≡ m .used → Tried pc m ss (stopped a m₁)
+    → undo (taken m₁) m₁ ≡ over (emptied m₁) m
 unfolding undo
-rollback-step {m = m} a b early = rw (sub-self (m .used))
-rollback-step {m = m} {m₁ = m₁} {ss = ss} a b (late h t) =
-    let e : m₁ .used - m .used ≡ suc (length ss) = omega (arith, used-after t) in
-    rw e (undo-step m a b h t)
+rollback-step {m = m} a b r early =
+    let none : m .used - m .older ≡ 0 = omega arith in
+    rw (none, r)
+rollback-step {m = m} {m₁ = m₁} {ss = ss} a b r (late h) =
+    let own : taken m₁ ≡ suc (length ss) = omega (arith, used-after (h .makes), older-after (h .makes), h .within) in
+    ap (λ (n : ℕ). undo n m₁) own ∙ undo-step (forget (h .dropped) m) a b (h .word-left) (h .makes) ∙ sym (emptied-late r h)
 
 -- ---- a step back
 
@@ -159,44 +183,32 @@ scan-made {m} n pc b (one {s} {ss} h t) e =
     (ap (λ (x : Area). scan x (suc (m .used)) (make s m .journal)) (area-after (one h none)) ∙ laid)
     ∙ ap (λ (k : ℕ). found k pc) more
 
--- a step that was done is taken back
-pub back-step : {s t : State} {ss : List Store} → Good s → Stepped s ss t → fitBack t ≡ done (state (s .pc) (blanked (suc (length ss)) (s .mem)))
+-- a mark and stores on top of a machine are taken off again
+pub back-made : {pc : ℕ} (m : Mem) {ss : List Store} (t : State) → pc < 65536 → Bytes m → m .used < length (m .journal) → Made (lay (markWord pc) m) ss (t .mem)
+    → fitBack t ≡ done (state pc (atRest (blanked (suc (length ss)) m)))
 unfolding fitBack
-back-step {s} {t} {ss} g h =
+back-made {pc} m {ss} t l b h k =
     let z : 1 + length ss ≡ suc (length ss) = omega arith in
-    let u : ℕ = s .mem .used in
-    let w : ℕ = markWord (s .pc) in
-    let y : Area = area (s .mem) in
-    let older : Find = scan y u (s .mem .journal) in
-    let newest : scan y (suc u) (set (s .mem .journal) u w) ≡ found 1 (s .pc) =
-    scan-lay y u w (s .mem .journal) (h .word-left) ∙ ap (λ (x : Note). seen y x older) (note-mark (s .pc) (g .address)) ∙ seen-mark y (s .pc) older (g .address) in
-    let e : scan (area (t .mem)) (t .mem .used) (t .mem .journal) ≡ found (1 + length ss) (s .pc) = scan-made 1 (s .pc) (g .bytes) (h .makes) newest in
-    ap (λ (f : Find). backTo f t) (e ∙ ap (λ (k : ℕ). found k (s .pc)) z)
-    ∙ ap (λ (m : Mem). done (state (s .pc) m)) (undo-step (s .mem) (g .address) (g .bytes) (h .word-left) (h .makes))
+    let u : ℕ = m .used in
+    let w : ℕ = markWord pc in
+    let y : Area = area m in
+    let older : Find = scan y u (m .journal) in
+    let newest : scan y (suc u) (set (m .journal) u w) ≡ found 1 pc =
+    scan-lay y u w (m .journal) h ∙ ap (λ (x : Note). seen y x older) (note-mark pc l) ∙ seen-mark y pc older l in
+    let e : scan (area (t .mem)) (t .mem .used) (t .mem .journal) ≡ found (1 + length ss) pc = scan-made 1 pc b k newest in
+    ap (λ (f : Find). backTo f t) (e ∙ ap (λ (k : ℕ). found k pc) z)
+    ∙ ap (λ (x : Mem). done (state pc (atRest x))) (undo-step m l b h k)
 
--- ---- the journal above the used words plays no part
-
-abbrev pub clearR : Reply → Reply
-clearR (done s) = done (clearS s)
-clearR (refused n s) = refused n (clearS s)
-
-settle-clear : (s : State) (o : Out (Unit {0})) → clearR (settle s o) ≡ settle (clearS s) (cleared o)
-settle-clear s (got a pc₁ m) = refl
-settle-clear s (stopped n m) =
-    let taken : ℕ = m .used - s .mem .used in
-    ap (λ (x : Mem). refused n (state (s .pc) x)) (clear-blanked taken (s .mem) ∙ sym (blanked-clear taken (s .mem)))
-
-pub step-clear : (s : State) → clearR (fitStep s) ≡ fitStep (clearS s)
-unfolding fitStep
-step-clear s = settle-clear s (attempt s) ∙ ap (settle (clearS s)) (sym (attempt-clear s))
-
-backTo-clear : (f : Find) (s : State) → clearR (backTo f s) ≡ backTo f (clearS s)
-backTo-clear (found n pc) s = ap (λ (x : Mem). done (state pc x)) (undo-clear n (s .mem))
-backTo-clear lost s = refl
-
-pub back-clear : (s : State) → clearR (fitBack s) ≡ fitBack (clearS s)
-unfolding fitBack
-back-clear s =
-    let u : ℕ = s .mem .used in
-    backTo-clear (scan (area (s .mem)) u (s .mem .journal)) s
-    ∙ ap (λ (f : Find). backTo f (clearS s)) (scan-same (area (s .mem)) u (s .mem .journal) (keep u (s .mem .journal)) (λ n h. sym (getD-keep u (s .mem .journal) n h)))
+-- the same stores beside another journal
+pub rebase : {m m′ : Mem} {ss : List Store} (b : Mem) → b .used + length ss ≤ length (b .journal) → Made m ss m′
+    → Made (over b m) ss (over (beside (sets (b .journal) (b .used) (map wordOf ss)) (b .used + length ss) b) m′)
+rebase {m} b l none =
+    let z : b .used ≡ b .used + 0 = omega arith in
+    subst (λ (n : ℕ). Made (over b m) [] (over (beside (b .journal) n b) m)) z none
+rebase {m} {m′} b l (one {s} {ss} h t) =
+    let next : Mem = beside (set (b .journal) (b .used) (wordOf s)) (suc (b .used)) b in
+    let z : suc (b .used) + length ss ≡ b .used + suc (length ss) = omega arith in
+    let fit : suc (b .used) + length ss ≤ length (next .journal) = omega (arith, length-set (b .journal) (b .used) (wordOf s)) in
+    let free : b .used < length (b .journal) = omega arith in
+    one (record { inside = h .inside; allowed = h .allowed; byte = h .byte; word-left = free; was = h .was })
+    (subst (λ (n : ℕ). Made (over next (make s m)) ss (over (beside (sets (next .journal) (next .used) (map wordOf ss)) n next) m′)) z (rebase next fit t))

@@ -1,18 +1,14 @@
--- The stores of an execution: what they did to the cells, the journal and the used count, whether the rule was done or refused.
+-- A list of stores: what it does to the cells, the journal and the used count.
 use mathlib.Core.Path.{_≡_, refl, _∙_, ap, ap₂, sym}
-use mathlib.Core.Bool.{Bool, true, false}
+use mathlib.Core.Bool.{true}
 use mathlib.Core.List.{List, [], _∷_, _++_, map, append-nil}
-use Prim.Native.Nat.{ℕ, zero, _+_, _%_, _≤_, _<_}
-use native.Mathlib.Nat.{mod-lt}
+use Prim.Native.Nat.{ℕ, _+_, _≤_, _<_}
 use native.Mathlib.Omega.{arith}
-use lib.Dec.{ltb, lit<}
 use lib.ListN.{length, getD, set, take, length-set}
-use lib.Seq.{sets, take-suc-set, append-snoc}
-use borrow.Author.Tests.{ltb-true}
-use Rattle.rules.specs.Machine.{pick, Kind, cpu, vdp, register, grom, upon, Area, areaOf, extent, writable, Mem, area, cells, put}
-use Rattle.rules.specs.Answers.{Answer, answerFor, noRoom, readOnly, outside}
-use Rattle.rules.specs.Journal.{lay, Store, storeOf, wordOf, make}
-use Rattle.rules.specs.Rules.{Act, next, ask, jump, load, store, Rule, give, refuse, act, Out, got, stopped, then, room, perform, exec, actStores, storesThen, stores}
+use lib.Seq.{sets, take-suc-set, take-set-le, append-snoc}
+use Rattle.rules.specs.Machine.{Kind, cpu, vdp, register, grom, upon, areaOf, extent, writable, Mem, area, cells, put}
+use Rattle.rules.specs.Journal.{lay, Store, wordOf, make, olderWords}
+use Rattle.rules.specs.Rules.{Out, got, stopped}
 
 -- the memories that an execution leaves
 abbrev pub memOf : {A : Type 0} → Out A → Mem
@@ -32,45 +28,9 @@ pub data Made : Mem → List Store → Mem → Type 0 where
   none : {m : Mem} → Made m [] m
   one : {s : Store} {ss : List Store} {m m′ : Mem} → Sound s m → Made (make s m) ss m′ → Made m (s ∷ ss) m′
 
-made-append : {m₀ m₁ m₂ : Mem} {ss ts : List Store} → Made m₀ ss m₁ → Made m₁ ts m₂ → Made m₀ (ss ++ ts) m₂
+pub made-append : {m₀ m₁ m₂ : Mem} {ss ts : List Store} → Made m₀ ss m₁ → Made m₁ ts m₂ → Made m₀ (ss ++ ts) m₂
 made-append none k = k
 made-append (one h t) k = one h (made-append t k)
-
--- ---- a rule makes its stores: by induction on the rule, an action at a time
-
-made-look : (c : Bool) (v pc : ℕ) (a : Answer) (m : Mem) → Made m [] (memOf (pick c (got v pc m) (stopped a m)))
-made-look true v pc a m = none
-made-look false v pc a m = none
-
-made-store : (k : Kind) (a b pc : ℕ) (m : Mem) (c : Bool) → ltb a (extent (area m) k) ≡ c → (w : Bool) → writable (area m) k a ≡ w → (d : Bool) → room m ≡ d
-    → Made m (pick c (pick w (pick d (storeOf k a (b % 256) m ∷ []) []) []) [])
-    (memOf (pick c (pick w (pick d (got zero pc (make (storeOf k a (b % 256) m) m)) (stopped (answerFor noRoom) m)) (stopped (answerFor readOnly) m))
-    (stopped (answerFor (outside k a)) m)))
-made-store k a b pc m true e true w true f =
-    one (record { inside = ltb-true _ _ e; allowed = w; byte = mod-lt b (lit< tt); word-left = ltb-true _ _ f; was = refl }) none
-made-store k a b pc m true e true w false f = none
-made-store k a b pc m true e false w d f = none
-made-store k a b pc m false e c w d f = none
-
-pub made-act : (q : Act) (pc : ℕ) (m : Mem) → Made m (actStores q m) (memOf (perform q pc m))
-unfolding perform actStores
-made-act next pc m = made-look (ltb pc (length (m .image))) _ _ _ m
-made-act ask pc m = none
-made-act (jump a) pc m = none
-made-act (load k a) pc m = made-look (ltb a (extent (area m) k)) _ _ _ m
-made-act (store k a b) pc m = made-store k a b pc m _ refl _ refl _ refl
-
-made-then : {A B : Type 0} (o : Out A) (f : A → ℕ → Mem → List Store) (g : A → ℕ → Mem → Out B)
-    → ((a : A) (pc : ℕ) (m : Mem) → Made m (f a pc m) (memOf (g a pc m))) → Made (memOf o) (storesThen o f) (memOf (then o g))
-made-then (got a pc m) f g h = h a pc m
-made-then (stopped n m) f g h = none
-
-pub makes : {A : Type 0} (r : Rule A) (pc : ℕ) (m : Mem) → Made m (stores r pc m) (memOf (exec r pc m))
-unfolding exec stores
-makes (give a) pc m = none
-makes (refuse why) pc m = none
-makes (act q k) pc m =
-    made-append (made-act q pc m) (made-then (perform q pc m) (λ v. stores (k v)) (λ v. exec (k v)) (λ v. makes (k v)))
 
 -- ---- what a list of stores leaves
 
@@ -93,6 +53,23 @@ put-cells P same a b put grom l m = upon-any (λ x. P x (m .image)) l (same _) (
 pub groups-after : {m m′ : Mem} {ss : List Store} → Made m ss m′ → m′ .groups ≡ m .groups
 groups-after none = refl
 groups-after (one h t) = groups-after t
+
+-- and so do the words of older steps, their place and the mode
+pub older-after : {m m′ : Mem} {ss : List Store} → Made m ss m′ → m′ .older ≡ m .older
+older-after none = refl
+older-after (one h t) = older-after t
+
+pub place-after : {m m′ : Mem} {ss : List Store} → Made m ss m′ → m′ .place ≡ m .place
+place-after none = refl
+place-after (one h t) = place-after t
+
+pub ring-after : {m m′ : Mem} {ss : List Store} → Made m ss m′ → m′ .ring ≡ m .ring
+ring-after none = refl
+ring-after (one h t) = ring-after t
+
+pub older-words-after : {m m′ : Mem} {ss : List Store} → m .older ≤ m .used → Made m ss m′ → olderWords m′ ≡ olderWords m
+older-words-after l none = refl
+older-words-after {m} l (one {s} h t) = older-words-after (omega arith) t ∙ take-set-le (m .older) (m .journal) (m .used) (wordOf s) l
 
 -- used: one word more for each
 pub used-after : {m m′ : Mem} {ss : List Store} → Made m ss m′ → m′ .used ≡ m .used + length ss
@@ -145,17 +122,3 @@ journal-length {m} (one {s} h t) = journal-length t ∙ length-set (m .journal) 
 pub used-fits : {m m′ : Mem} {ss : List Store} → Made m ss m′ → m .used ≤ length (m .journal) → m′ .used ≤ length (m′ .journal)
 used-fits none h = h
 used-fits {m} (one {s} k t) h = used-fits t (rw (length-set (m .journal) (m .used) (wordOf s)) (k .word-left))
-
--- ---- the same of a rule
-
--- Whether a rule is done or refused: the memories are those before with its stores applied, the used count has grown by their number,
--- and the journal has their words from there on and is otherwise untouched.
-pub record Leaves {A : Type 0} (r : Rule A) (pc : ℕ) (m : Mem) : Type 0 where
-  pub memories : (k : Kind) → cells k (memOf (exec r pc m)) ≡ cells k (putAll (stores r pc m) m)
-  pub used : memOf (exec r pc m) .used ≡ m .used + length (stores r pc m)
-  pub journal : memOf (exec r pc m) .journal ≡ sets (m .journal) (m .used) (map wordOf (stores r pc m))
-
-pub leaves : {A : Type 0} (r : Rule A) (pc : ℕ) (m : Mem) → Leaves r pc m
-leaves r pc m =
-    let h : Made m (stores r pc m) (memOf (exec r pc m)) = makes r pc m in
-    record { memories = λ k. cells-after k h; used = used-after h; journal = journal-after h }

@@ -14,8 +14,8 @@ use Rattle.rules.specs.Operands.{position, screenByte, toScreen}
 use Rattle.rules.specs.Format.{show, setCursor, wrapShow}
 use Rattle.rules.specs.Demands.{Bytes, Listed, BackCause, wrong-parts, no-record}
 use Rattle.rules.proofs.Laws.{exec-then}
-use Rattle.rules.proofs.Stores.{memOf, made-act}
-use Rattle.rules.proofs.Undo.{bytes-after}
+use Rattle.rules.proofs.Stores.{memOf}
+use Rattle.rules.proofs.Laid.{bytes-act}
 use Rattle.rules.proofs.Opcodes.{never-9}
 use Rattle.rules.proofs.Named.{Answered}
 
@@ -62,7 +62,7 @@ module _ {A : Type 0} where
   pub test-struck : (t : Tested A) (pc : ℕ) (m : Mem) → Bytes m → tested t pc m ≡ exec (struck t) pc m
   unfolding tested struck exec
   test-struck (act q k) pc m b =
-      going-on (perform q pc m) (λ v. tested (k v)) (λ v. exec (struck (k v))) (bytes-after (made-act q pc m) b) (λ v. test-struck (k v))
+      going-on (perform q pc m) (λ v. tested (k v)) (λ v. exec (struck (k v))) (bytes-act q pc m b) (λ v. test-struck (k v))
   test-struck (screen k) pc m b =
       rw (exec-then position (λ p. struck (k p)) pc m, position-is pc m, lt-ltb (positionOf m) 16384 (omega (arith, position-below m b)))
       (test-struck (k (positionOf m)) pc m b)

@@ -14,9 +14,8 @@ use lib.Seq.{set-set, set-getD, set-comm, getD-set-same, getD-set-other}
 use borrow.Author.Tests.{eqb-true, ltb-true, ltb-false}
 use Rattle.rules.specs.Machine.{bit, Kind, cpu, vdp, register, grom, reach, Area, extent, writable, Mem, mem, area, cells, put, beside}
 use Rattle.rules.specs.Journal.{kindNumber, word, markWord, lay, Store, wordOf, make, Note, stood, mark, nothing, stoodIn, noteOf, note, restore, zeroTop, undoTop, undo, blank, blanked}
-use Rattle.rules.specs.Rules.{Rule, exec, stores}
 use Rattle.rules.specs.Demands.{Bytes}
-use Rattle.rules.proofs.Stores.{memOf, Sound, Made, none, one, makes, put-cells, used-after, groups-after}
+use Rattle.rules.proofs.Stores.{Sound, Made, none, one, put-cells}
 
 -- ---- a word is read back as it was laid
 
@@ -83,7 +82,7 @@ bytes-set (x ∷ xs) zero b h l (suc i) = h (suc i)
 bytes-set (x ∷ xs) (suc j) b h l zero = h zero
 bytes-set (x ∷ xs) (suc j) b h l (suc i) = bytes-set xs j b (λ n. h (suc n)) l i
 
-bytes-put : (l : Kind) (a b : ℕ) (m : Mem) → b < 256 → Bytes m → Bytes (put l a b m)
+pub bytes-put : (l : Kind) (a b : ℕ) (m : Mem) → b < 256 → Bytes m → Bytes (put l a b m)
 bytes-put l a b m x h = (
   λ k n. put-cells (λ y z. ((i : ℕ) → getD z i 0 < 256) → (i : ℕ) → getD y i 0 < 256) (λ y p. p) a b (λ y p. bytes-set y a b p x) k l m (h .0 k) n,
   h .1,
@@ -96,7 +95,7 @@ pub bytes-after : {m m′ : Mem} {ss : List Store} → Made m ss m′ → Bytes 
 bytes-after none b = b
 bytes-after {m} (one {s} h t) b = bytes-after t (bytes-make s m h b)
 
-old-byte : (s : Store) (m : Mem) → Sound s m → Bytes m → s .old < 256
+pub old-byte : (s : Store) (m : Mem) → Sound s m → Bytes m → s .old < 256
 old-byte s m h b = rw (h .was) (b .0 (s .kind) (s .at))
 
 -- so the word of a store that was made is read back
@@ -138,7 +137,7 @@ pub length-blank : (n i : ℕ) (l : List ℕ) → length (blank n i l) ≡ lengt
 length-blank zero i l = refl
 length-blank (suc n) i l = length-set (blank n (suc i) l) i 0 ∙ length-blank n (suc i) l
 
-set-blank : (n i : ℕ) (l : List ℕ) (j w z : ℕ) → j < i → set (blank n i (set l j w)) j z ≡ set (blank n i l) j z
+pub set-blank : (n i : ℕ) (l : List ℕ) (j w z : ℕ) → j < i → set (blank n i (set l j w)) j z ≡ set (blank n i l) j z
 set-blank zero i l j w z h = set-set l j w z
 set-blank (suc n) i l j w z h =
     let ne : i ≢ j = omega arith in
@@ -152,10 +151,10 @@ put-back : (k : Kind) (a b : ℕ) (m : Mem) → put k a (getD (cells k m) a 0) (
 put-back k a b m = go k (set-set (cells k m) a b _ ∙ set-getD (cells k m) a 0)
   where
     go : (k : Kind) → set (set (cells k m) a b) a (getD (cells k m) a 0) ≡ cells k m → put k a (getD (cells k m) a 0) (put k a b m) ≡ m
-    go cpu e = ap (λ (l : List ℕ). mem (m .image) (m .groups) l (m .vram) (m .regs) (m .journal) (m .used)) e
-    go vdp e = ap (λ (l : List ℕ). mem (m .image) (m .groups) (m .pad) l (m .regs) (m .journal) (m .used)) e
-    go register e = ap (λ (l : List ℕ). mem (m .image) (m .groups) (m .pad) (m .vram) l (m .journal) (m .used)) e
-    go grom e = ap (λ (l : List ℕ). mem l (m .groups) (m .pad) (m .vram) (m .regs) (m .journal) (m .used)) e
+    go cpu e = ap (λ (l : List ℕ). mem (m .image) (m .groups) l (m .vram) (m .regs) (m .journal) (m .used) (m .older) (m .place) (m .ring)) e
+    go vdp e = ap (λ (l : List ℕ). mem (m .image) (m .groups) (m .pad) l (m .regs) (m .journal) (m .used) (m .older) (m .place) (m .ring)) e
+    go register e = ap (λ (l : List ℕ). mem (m .image) (m .groups) (m .pad) (m .vram) l (m .journal) (m .used) (m .older) (m .place) (m .ring)) e
+    go grom e = ap (λ (l : List ℕ). mem l (m .groups) (m .pad) (m .vram) (m .regs) (m .journal) (m .used) (m .older) (m .place) (m .ring)) e
 
 pub restore-beside : (x : Note) (j : List ℕ) (u : ℕ) (m : Mem) → restore x (beside j u m) ≡ beside j u (restore x m)
 restore-beside (stood k a b) j u m = refl
@@ -186,11 +185,3 @@ unfolding undo
 rollback b none = refl
 rollback {m} b (one {s} {ss} h t) =
     ap (λ (x : Mem). undoTop (x .used) x) (rollback (bytes-make s m h b) t) ∙ undo-make (length ss) s m b h
-
--- a rule taken back, whether it was done or refused: all as before, and the words that it took are 0
-pub rollback-rule : {A : Type 0} (r : Rule A) (pc : ℕ) (m : Mem) → Bytes m
-    → undo (memOf (exec r pc m) .used - m .used) (memOf (exec r pc m)) ≡ blanked (memOf (exec r pc m) .used - m .used) m
-rollback-rule r pc m b =
-    let n : ℕ = length (stores r pc m) in
-    let e : memOf (exec r pc m) .used - m .used ≡ n = omega (arith, used-after (makes r pc m)) in
-    rw e (rollback b (makes r pc m))

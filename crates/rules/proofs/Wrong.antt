@@ -1,6 +1,6 @@
 -- The wrong programs that 01 names, each shut out by a demand as it is stated: no such program meets the record.
 use mathlib.Core.Path.{_≡_, _∙_, sym, subst}
-use mathlib.Core.Bool.{true}
+use mathlib.Core.Bool.{true, false}
 use mathlib.Core.List.{[]}
 use Prim.Native.Nat.{ℕ}
 use native.Mathlib.Omega.{arith}
@@ -8,8 +8,9 @@ use Rattle.rules.specs.Machine.{_also_, Mem, mem, State, state}
 use Rattle.rules.specs.Answers.{Answer, saying}
 use Rattle.rules.specs.Rules.{Out, got, stopped}
 use Rattle.rules.specs.Calls.{imageFits, fits, attempt}
-use Rattle.rules.specs.Demands.{Cause, unfit, stops, Demand1, Demand2, Demand3}
-use Rattle.rules.proofs.Fits.{false-true}
+use Rattle.rules.specs.Demands.{Cause, unfit, stops, Demand1, Demand2, Past, Demand3}
+use Rattle.rules.proofs.Tests.{false-true}
+use Rattle.rules.proofs.Forget.{drops-plain}
 
 -- ---- demand 1
 
@@ -27,7 +28,7 @@ refuses-everything {s} f e d = go (d .cause)
 
 -- one fixed answer, 2: a machine without an image is to be refused with 11
 nowhere : State
-nowhere = state 0 (mem [] 0 [] [] [] [] 0)
+nowhere = state 0 (mem [] 0 [] [] [] [] 0 0 0 false)
 
 pub answers-2 : (a : ℕ) → ((s : State) → Demand1 s (saying 2 a) s) → ⊥
 unfolding nowhere imageFits _also_
@@ -38,9 +39,9 @@ answers-2 a d = go (d nowhere .cause)
 
 -- ---- demand 2
 
--- doing nothing: an accepted step has laid at least its mark
-pub does-nothing : {s : State} {n : ℕ} → Demand2 s s n → ⊥
-does-nothing d = omega (arith, d .words)
+-- doing nothing: an accepted step has laid at least its mark, and where steps are not dropped the journal has grown by it
+pub does-nothing : {s : State} {n : ℕ} → s .mem .ring ≡ false → Demand2 s s n → ⊥
+does-nothing e d = omega (arith, d .used, drops-plain e (d .drops))
 
 -- an invented store count: there is one only
 pub one-count : {s t : State} {n k : ℕ} → Demand2 s t n → Demand2 s t k → n ≡ k
@@ -49,5 +50,5 @@ one-count d e = d .count ∙ sym (e .count)
 -- ---- demand 3
 
 -- a journal of made-up size: there is one only
-pub one-size : {s₀ s t : State} {n : ℕ} → Demand3 s₀ n s → Demand3 s₀ n t → s .mem .used ≡ t .mem .used
+pub one-size : {s₀ s t : State} {h : Past} → Demand3 s₀ h s → Demand3 s₀ h t → s .mem .used ≡ t .mem .used
 one-size d e = d .used ∙ sym (e .used)

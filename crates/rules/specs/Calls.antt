@@ -1,13 +1,13 @@
 -- 01, "What a call says": step, run, step-back and viewer.
-use mathlib.Core.Bool.{Bool}
+use mathlib.Core.Bool.{Bool, true}
 use mathlib.Core.List.{List, []}
 use Prim.Native.Nat.{ℕ, zero, suc, _+_, _-_, _*_, _%_}
-use lib.Dec.{leb, eqb}
+use lib.Dec.{leb, ltb, eqb}
 use lib.ListN.{length, getD, take, drop}
-use Rattle.rules.specs.Machine.{pick, _also_, Kind, cpu, vdp, register, size, reach, group, Area, Mem, area, State, state}
+use Rattle.rules.specs.Machine.{pick, _also_, Kind, cpu, vdp, register, size, reach, group, Area, Mem, area, State, state, beside, over, atRest}
 use Rattle.rules.specs.Answers.{Answer, well, answerFor, noRoom, wrongLength, noRecord}
 use Rattle.rules.specs.Journal.{markWord, lay, Store, Note, stood, mark, nothing, note, sound, undo, blanked}
-use Rattle.rules.specs.Rules.{Out, got, stopped, then, after, room, next, perform, stores, storesThen}
+use Rattle.rules.specs.Rules.{Out, got, stopped, then, after, room, spare, next, perform, stores, storesThen}
 use Rattle.rules.specs.Opcodes.{Class, stops, does, classOf}
 use Rattle.rules.specs.Tasks.{ruleOf}
 
@@ -21,8 +21,14 @@ imageFits n = eqb (n % group) 0 also leb group n also leb n (8 * group)
 unfoldable pub partsFit : ℕ → ℕ → ℕ → ℕ → ℕ → Bool
 partsFit p v r j u = eqb p (size cpu) also eqb v (size vdp) also eqb r (size register) also leb j 1048576 also leb u j
 
+-- 02, item 5: the place of the oldest kept word, "11 if not 0 and past the journal". Where no step is dropped, it is not looked at.
+unfoldable pub placeFits : Bool → ℕ → ℕ → Bool
+placeFits ring a j = pick ring (pick (eqb a 0) true (ltb a j)) true
+
 abbrev pub fits : Mem → Bool
-fits m = imageFits (length (m .image)) also partsFit (length (m .pad)) (length (m .vram)) (length (m .regs)) (length (m .journal)) (m .used)
+fits m =
+    imageFits (length (m .image)) also partsFit (length (m .pad)) (length (m .vram)) (length (m .regs)) (length (m .journal)) (m .used)
+    also placeFits (m .ring) (m .place) (length (m .journal))
 
 -- ---- a step
 
@@ -41,7 +47,7 @@ left (refused a s) = s
 
 -- "kind 3 is a mark and carries the old pc": pc is where the opcode stood, pc₁ is past it
 unfoldable pub takeMark : ℕ → ℕ → Mem → Out (Unit {0})
-takeMark pc pc₁ m = pick (room m) (got tt pc₁ (lay (markWord pc) m)) (stopped (answerFor noRoom) m)
+takeMark pc pc₁ m = pick (room (spare m)) (got tt pc₁ (lay (markWord pc) (spare m))) (stopped (answerFor noRoom) (spare m))
 
 -- "A step takes a mark word first, for every opcode that 2, 3 and 1 don't stop."
 unfoldable pub begin : ℕ → Class → ℕ → Mem → Out (Unit {0})
@@ -49,12 +55,20 @@ begin pc (stops why) pc₁ m = stopped (answerFor why) m
 begin pc (does t) pc₁ m = after (takeMark pc pc₁ m) (ruleOf t)
 
 unfoldable pub attempt : State → Out (Unit {0})
-attempt s = then (perform next (s .pc) (s .mem)) (λ op pc₁ m. begin (s .pc) (classOf op) pc₁ m)
+attempt s = then (perform next (s .pc) (atRest (s .mem))) (λ op pc₁ m. begin (s .pc) (classOf op) pc₁ m)
 
--- "A refused step puts all back; the journal words it had taken become 0."
+-- how many words it has taken
+abbrev pub taken : Mem → ℕ
+taken m = m .used - m .older
+
+-- "the journal words it had taken become 0"
+abbrev pub emptied : Mem → Mem
+emptied m = blanked (taken m) (beside (m .journal) (m .older) m)
+
+-- "A refused step puts all back"; 02, item 5: those that it dropped it "has still lost"
 abbrev pub settle : State → Out (Unit {0}) → Reply
-settle s (got a pc₁ m) = done (state pc₁ m)
-settle s (stopped a m) = refused a (state (s .pc) (blanked (m .used - s .mem .used) (s .mem)))
+settle s (got a pc₁ m) = done (state pc₁ (atRest m))
+settle s (stopped a m) = refused a (state (s .pc) (over (emptied m) (s .mem)))
 
 -- a step of a machine whose parts fit
 unfoldable pub fitStep : State → Reply
@@ -71,7 +85,7 @@ beginStores pc (stops why) pc₁ m = []
 beginStores pc (does t) pc₁ m = storesThen (takeMark pc pc₁ m) (λ _ pc₂ m₂. stores (ruleOf t) pc₂ m₂)
 
 unfoldable pub stepStores : State → List Store
-stepStores s = storesThen (perform next (s .pc) (s .mem)) (λ op pc₁ m. beginStores (s .pc) (classOf op) pc₁ m)
+stepStores s = storesThen (perform next (s .pc) (atRest (s .mem))) (λ op pc₁ m. beginStores (s .pc) (classOf op) pc₁ m)
 
 -- those of a step that was done; a refused one has made none
 abbrev pub made : State → Reply → ℕ
@@ -133,7 +147,7 @@ scan z (suc u) j = seen z (note (getD j u 0)) (scan z u j)
 
 -- "Step-back takes words from the top down to the newest mark, restores each, sets pc, zeroes them. It answers 12, touching nothing, exactly if .."
 abbrev pub backTo : Find → State → Reply
-backTo (found n pc) s = done (state pc (undo n (s .mem)))
+backTo (found n pc) s = done (state pc (atRest (undo n (s .mem))))
 backTo lost s = refused (answerFor noRecord) s
 
 unfoldable pub fitBack : State → Reply

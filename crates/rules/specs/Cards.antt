@@ -1,5 +1,5 @@
 -- 01, "Bench cards", and facts of 02: a case is what is given and what must come out, and one test says whether it does.
-use mathlib.Core.Bool.{Bool, true}
+use mathlib.Core.Bool.{Bool, true, false}
 use mathlib.Core.List.{List, [], _∷_, _++_}
 use Prim.Native.Nat.{ℕ, zero, suc, _+_, _*_, _/_, _%_}
 use lib.Dec.{eqb}
@@ -70,7 +70,7 @@ allHold (h ∷ hs) m = eqb (getD (cells (h .kind) m) (h .at) 0) (h .byte) also a
 abbrev pub bench : List Code → Mem
 bench codes =
     put cpu subPointer 0x7E (mem (burnt codes (replicate group 0)) 0 (replicate (size cpu) 0) (replicate (size vdp) 0) (replicate (size register) 0)
-    (replicate 1024 0) 0)
+    (replicate 1024 0) 0 0 0 false)
 
 abbrev pub comesOut : Case → Report → Bool
 comesOut c r =

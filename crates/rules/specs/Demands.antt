@@ -1,14 +1,15 @@
 -- The words in which the demands are stated: what is supposed of a state, and what a sequence of calls leaves. docs/DEMANDS.md has the three demands; they are quoted here.
 use mathlib.Core.Path.{_≡_}
-use mathlib.Core.Bool.{true, false}
+use mathlib.Core.Bool.{Bool, true, false}
 use mathlib.Core.List.{List, [], _∷_, _++_, map}
-use Prim.Native.Nat.{ℕ, zero, suc, _+_, _-_, _<_}
-use lib.ListN.{length, getD, take}
-use Rattle.rules.specs.Machine.{pick, Kind, Mem, area, State, cells}
+use Prim.Native.Nat.{ℕ, zero, suc, _+_, _-_, _≤_, _<_}
+use lib.Dec.{leb}
+use lib.ListN.{length, getD, drop, replicate}
+use Rattle.rules.specs.Machine.{pick, Kind, Mem, area, State, cells, atRest}
 use Rattle.rules.specs.Answers.{Why, Answer, well, answerFor, wrongLength, noRecord}
-use Rattle.rules.specs.Journal.{markWord, wordOf, blank}
+use Rattle.rules.specs.Journal.{markWord, wordOf, blank, usedWords, oldest, placeOn}
 use Rattle.rules.specs.Rules.{Out, got, stopped}
-use Rattle.rules.specs.Calls.{fits, Reply, done, refused, left, attempt, step, stepStores, lost, scan, stepBack, Report, report}
+use Rattle.rules.specs.Calls.{fits, Reply, done, refused, left, attempt, taken, step, stepStores, lost, scan, stepBack, Report, report}
 
 -- ---- what is supposed: no more than the types of a byte and of a 16-bit number give
 
@@ -42,14 +43,23 @@ pub data Cause (s : State) : Answer → Type 0 where
   unfit : fits (s .mem) ≡ false → Cause s (answerFor wrongLength)
   stops : {a : Answer} {m : Mem} → fits (s .mem) ≡ true → attempt s ≡ stopped a m → Cause s a
 
--- how many journal words are in use where an attempt ends
-abbrev pub usedOf : Out (Unit {0}) → ℕ
-usedOf (got a pc m) = m .used
-usedOf (stopped a m) = m .used
+-- the memories with which an attempt ends
+abbrev pub endOf : Out (Unit {0}) → Mem
+endOf (got a pc m) = m
+endOf (stopped a m) = m
 
--- "the journal words that it had begun to use": none where test 11 fails
+-- "the journal words that it had begun to use", and those of steps before it that it dropped: none where test 11 fails
 abbrev pub begunWords : State → ℕ
-begunWords s = pick (fits (s .mem)) (usedOf (attempt s) - s .mem .used) 0
+begunWords s = pick (fits (s .mem)) (taken (endOf (attempt s))) 0
+
+abbrev pub droppedWords : State → ℕ
+droppedWords s = pick (fits (s .mem)) (s .mem .used - endOf (attempt s) .older) 0
+
+-- 02, item 5: "whole oldest steps .., as few as will do". Of the words ws, d are dropped, a step at a time, until there is room in a journal of c words for
+-- the others and n more; "On request", else none is
+pub data Drops (ring : Bool) (c n : ℕ) : List ℕ → ℕ → Type 0 where
+  enough : {ws : List ℕ} → length ws + n ≤ c → Drops ring c n ws 0
+  another : {ws : List ℕ} {d : ℕ} → ring ≡ true → c < length ws + n → Drops ring c n (drop (oldest ws) ws) d → Drops ring c n ws (oldest ws + d)
 
 -- What is so of the state t that a step of s leaves which is refused with an answer:
 pub record Demand1 (s : State) (a : Answer) (t : State) : Type 0 where
@@ -59,9 +69,14 @@ pub record Demand1 (s : State) (a : Answer) (t : State) : Type 0 where
   -- "A refused step returns program address, CPU RAM, VDP RAM and VDP registers to their values before it"; 02, item 9: "returns the image too"
   pub address : t .pc ≡ s .pc
   pub memories : (k : Kind) → cells k (t .mem) ≡ cells k (s .mem)
-  pub used : t .mem .used ≡ s .mem .used
-  -- "and zeroes only the journal words that it had begun to use"
-  pub words : t .mem .journal ≡ blank (begunWords s) (s .mem .used) (s .mem .journal)
+  -- 02, item 5: "a refused step, 10 included, has still lost them": the words of whole oldest steps, as few as will do; or none
+  pub drops : Drops (s .mem .ring) (length (s .mem .journal)) (begunWords s) (usedWords (s .mem)) (droppedWords s)
+  pub used : t .mem .used ≡ s .mem .used - droppedWords s
+  pub place : t .mem .place ≡ placeOn (droppedWords s) (length (s .mem .journal)) (s .mem .place)
+  pub mode : t .mem .ring ≡ s .mem .ring
+  -- "and zeroes only the journal words that it had begun to use"; 02, item 5: "demand 1 allows a refused step that zeroing too"
+  pub words : t .mem .journal
+      ≡ blank (begunWords s) (t .mem .used) (drop (droppedWords s) (s .mem .journal) ++ replicate (droppedWords s) 0)
 
 -- why a step back of s is refused with an answer: test 11 fails, or no sound record is found
 pub data BackCause (s : State) : Answer → Type 0 where
@@ -70,13 +85,23 @@ pub data BackCause (s : State) : Answer → Type 0 where
 
 -- ---- demand 2
 
+-- the words of a step: its mark, and then one word for each store that it made
+abbrev pub recordOf : State → List ℕ
+recordOf s = markWord (s .pc) ∷ map wordOf (stepStores s)
+
 -- What is so of the state t that an accepted step of s leaves, and of the number n of its stores: those "that 01's rules give"
 pub record Demand2 (s t : State) (n : ℕ) : Type 0 where
   pub fit : fits (s .mem) ≡ true
-  pub left : attempt s ≡ got tt (t .pc) (t .mem)
+  pub end : Mem
+  pub left : attempt s ≡ got tt (t .pc) end
+  pub rests : t .mem ≡ atRest end
   pub count : n ≡ length (stepStores s)
-  -- no invention: the journal has grown by the mark and one word for each store
-  pub words : t .mem .used ≡ suc (s .mem .used) + n
+  -- no invention: it has taken a word for its mark and one for each store, and what is kept of the journal has grown by these
+  pub begun : begunWords s ≡ suc n
+  pub drops : Drops (s .mem .ring) (length (s .mem .journal)) (begunWords s) (usedWords (s .mem)) (droppedWords s)
+  pub used : t .mem .used ≡ s .mem .used - droppedWords s + suc n
+  pub words : usedWords (t .mem) ≡ drop (droppedWords s) (usedWords (s .mem)) ++ recordOf s
+  pub place : t .mem .place ≡ placeOn (droppedWords s) (length (s .mem .journal)) (s .mem .place)
 
 -- ---- a sequence of calls
 
@@ -93,17 +118,6 @@ abbrev pub play : List Op → State → State
 play [] s = s
 play (o ∷ os) s = play os (left (reply o s))
 
--- the number of accepted steps not taken back: one more after an accepted step, one less after an accepted step-back
-abbrev pub tally : Op → Reply → ℕ → ℕ
-tally forth (done s) n = suc n
-tally forth (refused a s) n = n
-tally aback (done s) n = n - 1
-tally aback (refused a s) n = n
-
-abbrev pub kept : List Op → State → ℕ → ℕ
-kept [] s n = n
-kept (o ∷ os) s n = kept os (left (reply o s)) (tally o (reply o s) n)
-
 -- ---- only steps
 
 -- the state that n steps, and nothing else, lead to
@@ -116,15 +130,46 @@ abbrev pub AllAccepted : ℕ → State → Type 0
 AllAccepted zero s = Unit {0}
 AllAccepted (suc n) s = AllAccepted n s × Accepted (step (forward n s))
 
--- for each, oldest first, its mark and then one word for each store that it made
-abbrev pub records : ℕ → State → List ℕ
-records zero s = []
-records (suc n) s = records n s ++ markWord (forward n s .pc) ∷ map wordOf (stepStores (forward n s))
+-- those of the newest k of n steps, oldest first
+abbrev pub records : ℕ → ℕ → State → List ℕ
+records zero n s = []
+records (suc k) zero s = []
+records (suc k) (suc n) s = records k n s ++ recordOf (forward n s)
+
+-- how many of the newest k have room in c words
+abbrev pub fitting : ℕ → ℕ → ℕ → State → ℕ
+fitting c zero n s = 0
+fitting c (suc k) n s = pick (leb (length (records (suc k) n s)) c) (suc k) (fitting c k n s)
 
 -- how many stores they made: the lengths of the rules' store lists
 abbrev pub total : ℕ → State → ℕ
 total zero s = 0
 total (suc n) s = total n s + length (stepStores (forward n s))
+
+-- ---- the accepted steps not taken back
+
+-- how many there are, and how many of them, the newest, are kept
+pub record Past : Type 0 where
+  pub steps : ℕ
+  pub kept : ℕ
+
+abbrev pub past : ℕ → ℕ → Past
+past n k = record { steps = n; kept = k }
+
+-- beside the words that a step of s takes, accepted or refused, as many stay as have room
+abbrev pub stay : State → State → Past → ℕ
+stay s₀ s h = fitting (length (s .mem .journal) - begunWords s) (h .kept) (h .steps) s₀
+
+-- one more after an accepted step, one less after an accepted step-back
+abbrev pub tally : State → Op → State → Reply → Past → Past
+tally s₀ forth s (done t) h = past (suc (h .steps)) (suc (stay s₀ s h))
+tally s₀ forth s (refused a t) h = past (h .steps) (stay s₀ s h)
+tally s₀ aback s (done t) h = past (h .steps - 1) (h .kept - 1)
+tally s₀ aback s (refused a t) h = h
+
+abbrev pub history : State → List Op → State → Past → Past
+history s₀ [] s h = h
+history s₀ (o ∷ os) s h = history s₀ os (left (reply o s)) (tally s₀ o s (reply o s) h)
 
 -- ---- a run
 
@@ -135,17 +180,22 @@ pub data Ends (n : ℕ) (s : State) : Report → Type 0 where
 
 -- ---- demand 3
 
--- What is so after any sequence of calls from s₀ that has come to the state s, with n steps accepted and not taken back:
-pub record Demand3 (s₀ : State) (n : ℕ) (s : State) : Type 0 where
-  pub accepted : AllAccepted n s₀
+-- What is so after any sequence of calls from s₀ that has come to the state s, with the steps of h accepted and not taken back, and the newest of them kept:
+pub record Demand3 (s₀ : State) (h : Past) (s : State) : Type 0 where
+  pub accepted : AllAccepted (h .steps) s₀
   -- "the address and the memories are those reached by only the accepted steps not taken back"; 02, item 9: "the image among the memories"
-  pub address : s .pc ≡ forward n s₀ .pc
-  pub memories : (k : Kind) → cells k (s .mem) ≡ cells k (forward n s₀ .mem)
+  pub address : s .pc ≡ forward (h .steps) s₀ .pc
+  pub memories : (k : Kind) → cells k (s .mem) ≡ cells k (forward (h .steps) s₀ .mem)
   -- 02, item 9: "one set of writable groups"
   pub groups : s .mem .groups ≡ s₀ .mem .groups
-  -- "The journal then uses one word for each such step and one for each store that it made": these words, and no others
-  pub used : s .mem .used ≡ n + total n s₀
-  pub words : take (s .mem .used) (s .mem .journal) ≡ records n s₀
-  -- "A step-back is refused only when no such step is left."
-  pub none-left : n ≡ 0 → Refused (stepBack s)
-  pub some-left : 0 < n → Accepted (stepBack s)
+  -- the mode is the caller's: "On request"
+  pub mode : s .mem .ring ≡ s₀ .mem .ring
+  -- "The journal then uses one word for each such step and one for each store that it made": of those that are kept these words, and no others
+  pub used : s .mem .used ≡ length (records (h .kept) (h .steps) s₀)
+  pub words : usedWords (s .mem) ≡ records (h .kept) (h .steps) s₀
+  -- 02, item 5: "Demand 3 then speaks of steps still kept"; where steps are not dropped, each is
+  pub within : h .kept ≤ h .steps
+  pub all : s₀ .mem .ring ≡ false → h .kept ≡ h .steps
+  -- "A step-back is refused only when no such step is left.": "stepping back past the oldest answers 12"
+  pub none-left : h .kept ≡ 0 → fits (s .mem) ≡ true → stepBack s ≡ refused (answerFor noRecord) s
+  pub some-left : 0 < h .kept → Accepted (stepBack s)

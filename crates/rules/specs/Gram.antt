@@ -31,7 +31,7 @@ pub record Card : Type 0 where
 abbrev pub carded : Card → State
 carded c =
     state 0 (put cpu subPointer 0x7E (mem (burnt (c .image) (replicate (c .size * group) 0)) (c .writable) (replicate (size cpu) 0) (replicate (size vdp) 0)
-    (replicate (size register) 0) (replicate (c .room) 0) 0))
+    (replicate (size register) 0) (replicate (c .room) 0) 0 0 0 false))
 
 -- the journal's words, each as it should be
 abbrev pub wordsAre : List ℕ → List ℕ → Bool
@@ -151,7 +151,7 @@ takenBack c before =
 unfoldable pub backAnswers : ℕ → ℕ → ℕ
 backAnswers w word =
     answer (stepBack (state 0 (mem (replicate group 0) w (replicate (size cpu) 0) (replicate (size vdp) 0) (replicate (size register) 0)
-    (0x60000000 ∷ word ∷ []) 2))) .number
+    (0x60000000 ∷ word ∷ []) 2 2 0 false))) .number
 
 -- "Step-back's 12 covers kinds 5 to 7 and kind 4 outside those groups or beyond the image."
 abbrev pub backFacts : Bool

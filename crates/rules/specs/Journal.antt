@@ -1,10 +1,10 @@
 -- 01, "What a call says": the journal's words, how a store lays one, and how they are read and taken off again.
 use mathlib.Core.Bool.{Bool, false}
-use mathlib.Core.List.{List}
-use Prim.Native.Nat.{ℕ, zero, suc, _+_, _*_, _/_, _%_, _^_}
-use lib.Dec.{ltb}
-use lib.ListN.{getD, set}
-use Rattle.rules.specs.Machine.{_also_, Kind, cpu, vdp, register, grom, upon, Area, extent, writable, Mem, cells, put, beside}
+use mathlib.Core.List.{List, [], _∷_, _++_}
+use Prim.Native.Nat.{ℕ, zero, suc, _+_, _-_, _*_, _/_, _%_, _^_}
+use lib.Dec.{ltb, eqb}
+use lib.ListN.{length, getD, set, take, drop, replicate}
+use Rattle.rules.specs.Machine.{pick, _also_, Kind, cpu, vdp, register, grom, upon, Area, extent, writable, Mem, mem, cells, put, beside}
 
 -- ---- "Journal words: kind times .., plus for kinds 0 (CPU), 1 (VDP), 2 (register) the address times 256 plus the byte that stood there"
 
@@ -109,3 +109,41 @@ blank (suc n) i l = set (blank n (suc i) l) i 0
 -- the n words above the used ones: "the journal words it had taken become 0"
 abbrev pub blanked : ℕ → Mem → Mem
 blanked n m = beside (blank n (m .used) (m .journal)) (m .used) m
+
+-- ---- 02, item 5: whole oldest steps are dropped
+
+-- the caller's words as a journal has them: from the place of the oldest kept word on, and round to it; where no step is dropped, as they stand
+unfoldable pub turned : Bool → ℕ → List ℕ → List ℕ
+turned ring a j = pick ring (drop (a % length j) j ++ take (a % length j) j) j
+
+-- the used words; and those of the steps before the one that is being made
+abbrev pub usedWords : Mem → List ℕ
+usedWords m = take (m .used) (m .journal)
+
+abbrev pub olderWords : Mem → List ℕ
+olderWords m = take (m .older) (m .journal)
+
+-- "kind 3 is a mark", sound or not
+unfoldable pub marks : ℕ → Bool
+marks w = eqb (w / 2 ^ 29) 3
+
+-- how many words come before the next mark
+abbrev pub untilMark : List ℕ → ℕ
+untilMark [] = 0
+untilMark (w ∷ ws) = pick (marks w) 0 (suc (untilMark ws))
+
+-- how many words the oldest step has: the first, and those before the next mark. "Lent words with no mark below them are dropped together, as one oldest step."
+abbrev pub oldest : List ℕ → ℕ
+oldest [] = 0
+oldest (w ∷ ws) = suc (untilMark ws)
+
+-- n places on, in a journal of c words: after the last comes the first
+abbrev pub placeOn : ℕ → ℕ → ℕ → ℕ
+placeOn zero c a = a
+placeOn (suc n) c a = placeOn n c ((a + 1) % c)
+
+-- the n oldest words are dropped: "Words of dropped steps that aren't yet reused hold 0"
+abbrev pub forget : ℕ → Mem → Mem
+forget n m =
+    mem (m .image) (m .groups) (m .pad) (m .vram) (m .regs) (drop n (m .journal) ++ replicate n 0) (m .used - n) (m .older - n)
+    (placeOn n (length (m .journal)) (m .place)) (m .ring)

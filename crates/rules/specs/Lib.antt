@@ -14,3 +14,4 @@ pub mod Calls
 pub mod Demands
 pub mod Cards
 pub mod Gram
+pub mod Rings

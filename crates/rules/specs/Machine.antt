@@ -68,11 +68,18 @@ pub record Mem : Type 0 where
   pub pad : List ℕ
   pub vram : List ℕ
   pub regs : List ℕ
+  -- the words from the oldest kept one on, round to the word before it: the first `used` of them are used
   pub journal : List ℕ
   pub used : ℕ
+  -- how many of the used words are of steps before the one that is being made; between two calls, all
+  pub older : ℕ
+  -- 02, item 5: "the place of the oldest kept word", among the caller's words
+  pub place : ℕ
+  -- "On request": whether whole oldest steps are dropped when a step needs room
+  pub ring : Bool
 
-abbrev pub mem : List ℕ → ℕ → List ℕ → List ℕ → List ℕ → List ℕ → ℕ → Mem
-mem i w p v r j u = record { image = i; groups = w; pad = p; vram = v; regs = r; journal = j; used = u }
+abbrev pub mem : List ℕ → ℕ → List ℕ → List ℕ → List ℕ → List ℕ → ℕ → ℕ → ℕ → Bool → Mem
+mem i w p v r j u o a c = record { image = i; groups = w; pad = p; vram = v; regs = r; journal = j; used = u; older = o; place = a; ring = c }
 
 abbrev pub area : Mem → Area
 area m = areaOf (length (m .image)) (m .groups)
@@ -95,10 +102,19 @@ put k a b m =
     mem (upon k (m .image) (m .image) (m .image) (set (m .image) a b)) (m .groups)
     (upon k (set (m .pad) a b) (m .pad) (m .pad) (m .pad)) (upon k (m .vram) (set (m .vram) a b) (m .vram) (m .vram))
     (upon k (m .regs) (m .regs) (set (m .regs) a b) (m .regs)) (m .journal) (m .used)
+    (m .older) (m .place) (m .ring)
 
--- the same cells beside another journal
+-- the same machine with these words, so many of them used
 abbrev pub beside : List ℕ → ℕ → Mem → Mem
-beside j u m = mem (m .image) (m .groups) (m .pad) (m .vram) (m .regs) j u
+beside j u m = mem (m .image) (m .groups) (m .pad) (m .vram) (m .regs) j u (m .older) (m .place) (m .ring)
+
+-- the journal of one machine beside the cells of another
+abbrev pub over : Mem → Mem → Mem
+over b m = mem (m .image) (m .groups) (m .pad) (m .vram) (m .regs) (b .journal) (b .used) (b .older) (b .place) (b .ring)
+
+-- no step is being made
+abbrev pub atRest : Mem → Mem
+atRest m = mem (m .image) (m .groups) (m .pad) (m .vram) (m .regs) (m .journal) (m .used) (m .used) (m .place) (m .ring)
 
 -- ---- how they count
 

@@ -4,9 +4,9 @@ use mathlib.Core.List.{List, [], _∷_, _++_}
 use Prim.Native.Nat.{ℕ, _+_, _%_}
 use lib.Dec.{ltb}
 use lib.ListN.{length, getD}
-use Rattle.rules.specs.Machine.{pick, Kind, grom, extent, writable, Mem, area, cells, onward, joined}
+use Rattle.rules.specs.Machine.{pick, _also_, Kind, grom, extent, writable, Mem, area, cells, onward, joined}
 use Rattle.rules.specs.Answers.{Why, Answer, answerFor, offGrom, noRoom, readOnly, outside}
-use Rattle.rules.specs.Journal.{Store, storeOf, make}
+use Rattle.rules.specs.Journal.{Store, storeOf, make, olderWords, oldest, forget}
 
 -- ---- the language
 
@@ -60,6 +60,11 @@ then (stopped n m) k = stopped n m
 abbrev pub room : Mem → Bool
 room m = ltb (m .used) (length (m .journal))
 
+-- 02, item 5: "when a step needs room, let whole oldest steps be dropped and their words used again, as few as will do": where none is left, the oldest
+-- step's are, which is enough. The step's own words are never dropped
+unfoldable pub spare : Mem → Mem
+spare m = pick (room m) m (pick (m .ring also ltb 0 (m .older)) (forget (oldest (olderWords m)) m) m)
+
 -- one action on a program address and the memories. "For one store, 4, 5, .. or 13 comes before 10." 02, item 9: 24 "just after 6 for that byte, both before 10"
 unfoldable pub perform : Act → ℕ → Mem → Out ℕ
 perform next pc m = pick (ltb pc (length (m .image))) (got (getD (m .image) pc 0) (onward pc) m) (stopped (answerFor (offGrom pc)) m)
@@ -69,7 +74,7 @@ perform (load k a) pc m = pick (ltb a (extent (area m) k)) (got (getD (cells k m
 perform (store k a b) pc m =
     pick (ltb a (extent (area m) k))
     (pick (writable (area m) k a)
-    (pick (room m) (got 0 pc (make (storeOf k a (b % 256) m) m)) (stopped (answerFor noRoom) m))
+    (pick (room (spare m)) (got 0 pc (make (storeOf k a (b % 256) m) (spare m))) (stopped (answerFor noRoom) (spare m)))
     (stopped (answerFor readOnly) m))
     (stopped (answerFor (outside k a)) m)
 
@@ -95,7 +100,7 @@ actStores ask m = []
 actStores (jump a) m = []
 actStores (load k a) m = []
 actStores (store k a b) m =
-    pick (ltb a (extent (area m) k)) (pick (writable (area m) k a) (pick (room m) (storeOf k a (b % 256) m ∷ []) []) []) []
+    pick (ltb a (extent (area m) k)) (pick (writable (area m) k a) (pick (room (spare m)) (storeOf k a (b % 256) m ∷ []) []) []) []
 
 abbrev pub storesThen : {A : Type 0} → Out A → (A → ℕ → Mem → List Store) → List Store
 storesThen (got a pc m) f = f a pc m

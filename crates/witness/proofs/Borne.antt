@@ -4,12 +4,11 @@ use mathlib.Core.Bool.{Bool, true, false}
 use mathlib.Core.List.{List}
 use Prim.Native.Nat.{ℕ, zero, suc, _<_}
 use native.Mathlib.Omega.{arith}
-use lib.ListN.{length}
-use Rattle.rules.specs.Machine.{Mem, mem, State, state, cells}
-use Rattle.rules.specs.Journal.{blanked}
-use Rattle.rules.specs.Calls.{fits, Reply, done, refused, left, step, stepStores, stepBack, run}
+use Rattle.rules.specs.Machine.{State, cells}
+use Rattle.rules.specs.Calls.{fits, Reply, done, left, step, stepBack, run}
 use Rattle.rules.specs.Demands.{Good, Accepted}
-use Rattle.rules.proofs.History.{back-undoes}
+use Rattle.rules.proofs.Forget.{drops-plain}
+use Rattle.rules.proofs.History.{stepped, back-undoes, fits-after}
 use Rattle.bench.specs.declared.at.At.{At}
 use Rattle.bench.specs.declared.walk.Reply as walk
 use Rattle.bench.specs.declared.runs.Report as runs
@@ -21,8 +20,8 @@ use Rattle.witness.specs.Demanded as demanded
 use Rattle.witness.specs.Demanded.{Home}
 
 -- bytes are bytes, an address has 16 bits and the groups eight: what the types give
-pub good-of : {i p v g j : List ℕ} {at : At} → at .pc < 65536 → at .writable < 256 → AreBytes i → AreBytes p → AreBytes v → AreBytes g → Good (stateAt i p v g j at)
-good-of {i} {p} {v} {g} {j} {at} l w d a b c = record { address = l; bytes = bytes-of (mem i (at .writable) p v g j (at .used)) w d a b c }
+pub good-of : {i p v g : List ℕ} (j : List ℕ) {at : At} → at .pc < 65536 → at .writable < 256 → AreBytes i → AreBytes p → AreBytes v → AreBytes g → Good (stateAt i p v g j at)
+good-of {i} {p} {v} {g} j {at} l w d a b c = record { address = l; bytes = bytes-of (stateAt i p v g j at .mem) w d a b c }
 
 -- an answer is 0, or not
 data Answer (n : ℕ) : Type 0 where
@@ -52,7 +51,7 @@ module _ {s : State} {x : Returned walk.Reply} where
   pub home-refused : Tells told stepping s x → (x .result .answer ≡ 0 → ⊥) → Home s (leaves x)
   home-refused e h =
       let d = demand1 e h .0 in
-      record { address = d .address; memories = d .memories; used = d .used }
+      record { address = d .address; memories = d .memories; used = λ r. omega (arith, d .used, drops-plain r (d .drops)) }
 
 pub run-bears : (n : ℕ) {s : State} {x : Returned runs.Report} → Tells reported (run n) s x → demanded.Run n s x
 run-bears n {s} {x} e = go (fits (s .mem)) refl
@@ -61,21 +60,16 @@ run-bears n {s} {x} e = go (fits (s .mem)) refl
     go true f = demanded.fit f (run-ends n e f)
     go false f = demanded.unfit f (run-unfit n e f)
 
--- which groups are writable plays no part in it
-pub any-groups : {s : State} {pc w x u : ℕ} {i p v g j : List ℕ} → Home s (state pc (mem i w p v g j u)) → Home s (state pc (mem i x p v g j u))
-any-groups h = record { address = h .address; memories = h .memories; used = h .used }
-
 -- an accepted step, and the step back from where it led
-pub home-back : {s : State} {x y : Returned walk.Reply} → Good s → Tells told stepping s x → x .result .answer ≡ 0 → Tells told backing
-    (leaves x) y → Home s (leaves y)
+pub home-back : {s : State} {x y : Returned walk.Reply} → Good s → Tells told stepping s x → x .result .answer ≡ 0 → Tells told backing (leaves x) y
+    → Home s (leaves y)
 home-back {s} {x} {y} g e z k =
     let there : step s ≡ done (leaves x) = accepts e z in
-    let undone : Mem = blanked (suc (length (stepStores s))) (s .mem) in
-    let back : stepBack (leaves x) ≡ done (state (s .pc) undone) = ap (λ (r : Reply). stepBack (left r)) (sym there)
-    ∙ back-undoes s g (subst Accepted (sym there) tt) in
-    let same : leaves y ≡ state (s .pc) undone = leads k ∙ ap left back in
+    let a : Accepted (step s) = subst Accepted (sym there) tt in
+    let back : stepBack (leaves x) ≡ _ = ap (λ (r : Reply). stepBack (left r)) (sym there) ∙ back-undoes s g a (fits-after s g a) in
+    let same : leaves y ≡ _ = leads k ∙ ap left back in
     record {
       address = ap (λ (t : State). t .pc) same;
       memories = λ m. ap (λ (t : State). cells m (t .mem)) same;
-      used = ap (λ (t : State). t .mem .used) same;
+      used = λ r. ap (λ (t : State). t .mem .used) same ∙ (omega (arith, drops-plain r (stepped s g a .late .few)));
     }

@@ -1,57 +1,95 @@
 -- What a caller counts while it goes: by demand 3 of bench, of the calls made so far and of one more.
-use mathlib.Core.Path.{_≡_, refl, _∙_, ap, subst}
+use mathlib.Core.Path.{_≡_, refl, _∙_, ap, ap₂, sym, subst}
 use mathlib.Core.Bool.{Bool, true, false}
-use mathlib.Core.List.{List}
+use mathlib.Core.List.{List, []}
 use Prim.Native.Nat.{ℕ, zero, suc, _+_, _-_, _≤_, _<_}
 use lib.Dec.{eqb}
 use native.Mathlib.Omega.{arith}
 use Rattle.rules.specs.Machine.{pick, State}
-use Rattle.rules.specs.Calls.{run}
-use Rattle.rules.specs.Demands.{Good, Refused, Demand3}
+use Rattle.rules.specs.Calls.{Reply, done, refused, stepBack, run}
+use Rattle.rules.specs.Demands.{Good, Accepted, aback, Past, past, tally, Demand3}
 use Rattle.bench.specs.declared.walk.Reply as walk
 use Rattle.bench.specs.declared.runs.Report as runs
 use Rattle.bench.specs.Meaning.{Returned, leaves, told, backing, reported, Tells}
-use Rattle.bench.specs.Promised.{Said, Called, then-back, then-run, Count, oneLess, countOf, Keeps}
-use Rattle.bench.proofs.Replies.{accepts}
-use Rattle.bench.proofs.Sequence.{demand3}
+use Rattle.bench.specs.Promised.{no-call, then-back, then-run, Count, oneLess, noMore, countOf, pastOf, Keeps}
+use Rattle.bench.proofs.Sequence.{demand3, back-past}
+use Rattle.witness.specs.Demanded.{Led, Behind}
 
--- calls have led from s₀, whose journal was empty, to s, and of their answers so many steps are counted
-pub record Along (s₀ : State) (n : ℕ) (s : State) : Type 0 where
-  pub good : Good s₀
-  pub empty : s₀ .mem .used ≡ 0
-  pub said : List Said
-  pub called : Called s₀ said s
-  pub count : n ≡ countOf said .steps
+abbrev pub pastBy : {s₀ s : State} → Led s₀ s → Past
+pastBy {s₀} a = pastOf s₀ (a .said)
 
-keeps : {s₀ s : State} {n : ℕ} (a : Along s₀ n s) → Keeps s₀ (countOf (a .said)) s
+keeps : {s₀ s : State} (a : Led s₀ s) → Keeps s₀ (pastBy a) (countOf (a .said)) s
 keeps a = demand3 (a .good) (a .empty) (a .called)
 
-pub held : {s₀ s : State} {n : ℕ} → Along s₀ n s → Demand3 s₀ n s
-held a = rw (a .count) (keeps a .steps)
+pub held : {s₀ s : State} (a : Led s₀ s) → Demand3 s₀ (pastBy a) s
+held a = keeps a .steps
 
--- each is a word of the journal
-pub in-journal : {s₀ s : State} {n : ℕ} → Along s₀ n s → n ≤ s .mem .used
-in-journal a = omega (arith, a .count, keeps a .used, keeps a .words)
+abbrev pub at-first : {s₀ : State} → Good s₀ → s₀ .mem .used ≡ 0 → Led s₀ s₀
+at-first g z = record { good = g; empty = z; said = []; called = no-call }
 
 -- ---- one more call
 
-pub after-run : (n : ℕ) {s₀ s : State} {m k : ℕ} {x : Returned runs.Report} → Tells reported (run n) s x → k ≡ m + x .result .steps → Along s₀ m s
-    → Along s₀ k (reported x .end)
-after-run n e q a =
-    record { good = a .good; empty = a .empty; said = _; called = then-run n (a .called) e; count = omega (arith, q, a .count) }
+abbrev pub after-run : (n : ℕ) {s₀ s : State} {x : Returned runs.Report} → Tells reported (run n) s x → Led s₀ s → Led s₀ (reported x .end)
+after-run n e a = record { good = a .good; empty = a .empty; said = _; called = then-run n (a .called) e }
 
-module _ {s₀ s : State} {n : ℕ} {x : Returned walk.Reply} (e : Tells told backing s x) where
-  pub after-back : {k : ℕ} → k ≡ pick (eqb (x .result .answer) 0) (n - 1) n → Along s₀ n s → Along s₀ k (leaves x)
-  after-back {k} q a =
-      record { good = a .good; empty = a .empty; said = _; called = then-back (a .called) e; count = q ∙ go (eqb (x .result .answer) 0) (countOf (a .said)) (a .count) }
-    where
-      go : (b : Bool) (c : Count) → n ≡ c .steps → pick b (n - 1) n ≡ (pick b (oneLess (x .result) c) c) .steps
-      go true c z = ap (λ (m : ℕ). m - 1) z
-      go false c z = z
+abbrev pub after-back : {s₀ s : State} {x : Returned walk.Reply} → Tells told backing s x → Led s₀ s → Led s₀ (leaves x)
+after-back e a = record { good = a .good; empty = a .empty; said = _; called = then-back (a .called) e }
 
-  pub some-kept : Along s₀ n s → x .result .answer ≡ 0 → 0 < n
-  some-kept a z = go n refl
+-- ---- a run taken back
+
+pub ran-behind : (n : ℕ) {s₀ : State} {x : Returned runs.Report} → Good s₀ → s₀ .mem .used ≡ 0 → Tells reported (run n) s₀ x
+    → Behind s₀ (x .result .steps) (x .result .steps) (reported x .end)
+ran-behind n {x = x} g z e =
+    let a : Led _ _ = after-run n e (at-first g z) in
+    let counted : pastBy a .steps ≡ x .result .steps = keeps a .counted ∙ (omega arith) in
+    record { led = a; count = counted; most = omega (arith, held a .within, counted) }
+
+module _ {s₀ s : State} {n l : ℕ} {x : Returned walk.Reply} (e : Tells told backing s x) (u : Behind s₀ n l s) where
+  h : Past
+  h = pastBy (u .led)
+
+  fewer-kept : (r : Reply) → stepBack s ≡ r → 0 < l → tally s₀ aback s r h .kept ≤ l - 1
+  unfolding h
+  fewer-kept (done t) q p = omega (arith, u .most)
+  fewer-kept (refused a t) q p = go (h .kept) refl
     where
-      go : (m : ℕ) → n ≡ m → 0 < m
-      go zero q = absurd (subst Refused (accepts e z) (held a .none-left q))
-      go (suc m) q = omega arith
+      go : (k : ℕ) → h .kept ≡ k → h .kept ≤ l - 1
+      go zero z = omega (arith, z)
+      go (suc k) z = absurd (subst Accepted q (held (u .led) .some-left (omega (arith, z))))
+
+  pub behind-on : {m : ℕ} → 0 < l → m ≡ pick (eqb (x .result .answer) 0) (n - 1) n → Behind s₀ m (l - 1) (leaves x)
+  unfolding h
+  behind-on {m} p q =
+      let a : Led s₀ (leaves x) = after-back e (u .led) in
+      let same : pastBy a ≡ tally s₀ aback s (stepBack s) h = back-past (x .result) (u .led .called) in
+      record {
+        led = a;
+        count = keeps a .counted ∙ go (eqb (x .result .answer) 0) (countOf (u .led .said)) ∙ ap (λ (k : ℕ). pick (eqb (x .result .answer) 0) (k - 1) k) counted ∙ sym q;
+        most = subst (λ (y : Past). y .kept ≤ l - 1) (sym same) (fewer-kept (stepBack s) refl p);
+      }
+    where
+      counted : countOf (u .led .said) .steps ≡ n
+      counted = sym (keeps (u .led) .counted) ∙ u .count
+
+      go : (b : Bool) (c : Count) → (pick b (oneLess (x .result) c) (noMore (x .result) c)) .steps ≡ pick b (c .steps - 1) (c .steps)
+      go true c = refl
+      go false c = refl
+
+-- no more step-backs are left to make than steps are counted
+pub fewer-left : (a : ℕ) {n l m : ℕ} → m ≡ pick (eqb a 0) (n - 1) n → l ≤ n → l - 1 ≤ m
+fewer-left a {n} {l} {m} q p = go (eqb a 0) q
+  where
+    go : (b : Bool) → m ≡ pick b (n - 1) n → l - 1 ≤ m
+    go true e = omega (arith, e)
+    go false e = omega (arith, e)
+
+-- none is left to take back
+module _ {s₀ s : State} {n l : ℕ} (u : Behind s₀ n l s) (z : l ≡ 0) where
+  pub none-kept : Demand3 s₀ (past n 0) s
+  none-kept =
+      let k : pastBy (u .led) .kept ≡ 0 = omega (arith, u .most) in
+      let same : pastBy (u .led) ≡ past n 0 = ap₂ past (u .count) k in
+      subst (λ (y : Past). Demand3 s₀ y s) same (held (u .led))
+
+  pub none-left : s₀ .mem .ring ≡ false → n ≡ 0
+  none-left r = omega (arith, held (u .led) .all r, u .count, u .most)

@@ -11,7 +11,7 @@ use Rattle.rules.specs.Demands.{Good}
 use Rattle.rules.proofs.Named.{NamedReply, named-step, named-back}
 use Rattle.rules.proofs.Opcodes.{never-done}
 use Rattle.bench.specs.Meaning.{Returned, Outcome, outcome, replies, told, stepping, backing, reported, Tells}
-use Rattle.bench.specs.Promised.{Said, Called, no-call, then-step, then-back, then-run, countOf, Keeps}
+use Rattle.bench.specs.Promised.{Said, Called, no-call, then-step, then-back, then-run, countOf, pastOf, Keeps}
 use Rattle.bench.proofs.Sequence.{demand3}
 use Rattle.export.specs.Meaning.{Numbers, heard, tallied, counted, oneStep, oneBack}
 use Rattle.witness.specs.Demanded as demanded
@@ -30,40 +30,40 @@ uncounted (refused a t) n h =
     let ne : a .number ≡ 0 → ⊥ = λ z. omega (arith, never-done (h .why), ap (λ (b : Answer). b .number) (h .is)) in
     rw (ne-eqb (a .number) 0 ne)
 
-heard-reply : (w : ℕ) (q : Reply) (n : ℕ) (x : Returned Numbers) → NamedReply q → heard w x ≡ counted (outcome q n) → told (asReply w x) ≡ outcome q n
+heard-reply : (ring w : ℕ) (q : Reply) (n : ℕ) (x : Returned Numbers) → NamedReply q → heard ring w x ≡ counted (outcome q n) → told (asReply ring w x) ≡ outcome q n
 unfolding heard counted replied
-heard-reply w q n x h e = ap replied e ∙ uncounted q n h
+heard-reply ring w q n x h e = ap replied e ∙ uncounted q n h
 
 -- ---- each call
 
-module _ (w : ℕ) {s : State} {x : Returned Numbers} where
-  step-told : Tells (heard w) oneStep s x → Tells told stepping s (asReply w x)
-  step-told e = record { is = heard-reply w (step s) (made s (step s)) x (named-step s) (e .is) }
+module _ (ring w : ℕ) {s : State} {x : Returned Numbers} where
+  step-told : Tells (heard ring w) oneStep s x → Tells told stepping s (asReply ring w x)
+  step-told e = record { is = heard-reply ring w (step s) (made s (step s)) x (named-step s) (e .is) }
 
-  back-told : Tells (heard w) oneBack s x → Tells told backing s (asReply w x)
-  back-told e = record { is = heard-reply w (stepBack s) 0 x (named-back s) (e .is) }
+  back-told : Tells (heard ring w) oneBack s x → Tells told backing s (asReply ring w x)
+  back-told e = record { is = heard-reply ring w (stepBack s) 0 x (named-back s) (e .is) }
 
-  run-told : (n : ℕ) → Tells (heard w) (run n) s x → Tells reported (run n) s (asReport w x)
+  run-told : (n : ℕ) → Tells (heard ring w) (run n) s x → Tells reported (run n) s (asReport ring w x)
   unfolding heard
   run-told n e = record { is = e .is }
 
-  pub step-heard : Tells (heard w) oneStep s x → demanded.Step s (asReply w x)
+  pub step-heard : Tells (heard ring w) oneStep s x → demanded.Step s (asReply ring w x)
   step-heard e = step-bears (step-told e)
 
-  pub back-heard : Tells (heard w) oneBack s x → demanded.Back s (asReply w x)
+  pub back-heard : Tells (heard ring w) oneBack s x → demanded.Back s (asReply ring w x)
   back-heard e = back-bears (back-told e)
 
-  pub run-heard : (n : ℕ) → Tells (heard w) (run n) s x → demanded.Run n s (asReport w x)
+  pub run-heard : (n : ℕ) → Tells (heard ring w) (run n) s x → demanded.Run n s (asReport ring w x)
   run-heard n e = run-bears n (run-told n e)
 
 -- ---- any sequence of them
 
-as-called : {w : ℕ} {s₀ s : State} {l : List Said} → HostCalled w s₀ l s → Called s₀ l s
+as-called : {ring w : ℕ} {s₀ s : State} {l : List Said} → HostCalled ring w s₀ l s → Called s₀ l s
 as-called hosted.no-call = no-call
-as-called {w} (hosted.then-step h e) = then-step (as-called h) (step-told w e)
-as-called {w} (hosted.then-back h e) = then-back (as-called h) (back-told w e)
-as-called {w} (hosted.then-run n h e) = then-run n (as-called h) (run-told w n e)
+as-called {ring} {w} (hosted.then-step h e) = then-step (as-called h) (step-told ring w e)
+as-called {ring} {w} (hosted.then-back h e) = then-back (as-called h) (back-told ring w e)
+as-called {ring} {w} (hosted.then-run n h e) = then-run n (as-called h) (run-told ring w n e)
 
 -- Demand 3, of the calls for C.
-pub demand3-heard : {w : ℕ} {s₀ s : State} {l : List Said} → Good s₀ → s₀ .mem .used ≡ 0 → HostCalled w s₀ l s → Keeps s₀ (countOf l) s
+pub demand3-heard : {ring w : ℕ} {s₀ s : State} {l : List Said} → Good s₀ → s₀ .mem .used ≡ 0 → HostCalled ring w s₀ l s → Keeps s₀ (pastOf s₀ l) (countOf l) s
 demand3-heard g z h = demand3 g z (as-called h)

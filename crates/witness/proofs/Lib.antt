@@ -1,4 +1,3 @@
 mod Borne
-mod Unwound
 mod Counted
 mod Heard

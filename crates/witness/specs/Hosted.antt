@@ -7,54 +7,53 @@ use denote.Ref.{RefT, now}
 use denote.Triple.Both.{Both}
 use Rattle.rules.specs.Machine.{State}
 use Rattle.rules.specs.Calls.{run}
-use Rattle.machine.specs.Meaning.{Lent, Parts, Rest, unseenAll, memAfter}
+use Rattle.machine.specs.Meaning.{Lent, Parts, Rest, unseenAll}
 use Rattle.bench.specs.declared.at.At.{At}
 use Rattle.bench.specs.declared.walk.Reply.{Reply}
 use Rattle.bench.specs.declared.runs.Report.{Report}
-use Rattle.bench.specs.Meaning.{Returned, returned, returnedOf, standsAt, lentTo, Tells}
+use Rattle.bench.specs.Meaning.{Returned, returned, returnedBy, standsAt, lentTo, Tells}
 use Rattle.bench.specs.Promised.{Said, stepped, backed, ran}
-use Rattle.export.specs.Meaning.{Numbers, heard, oneStep, oneBack, bytesOf, shown, named}
+use Rattle.export.specs.Meaning.{stands, Numbers, heard, oneStep, oneBack, bytesOf, shown, named}
 
 -- the same parts beside another result
 abbrev pub beside : {A B : Type 0} → (A → B) → Returned A → Returned B
 beside f x = returned (x .image) (x .pad) (x .vram) (x .regs) (x .journal) (f (x .result))
 
--- `out` has pc, used words, steps, stores and address, in this order; the writable groups are those that the host has lent
-abbrev pub atOf : ℕ → Numbers → At
-atOf w n = record { pc = getD (n .out) 0 0; used = getD (n .out) 1 0; writable = w }
+-- `out` has pc, used words, steps, stores, address and place, in this order; the mode and the writable groups are those that the host has lent
+abbrev pub atOf : ℕ → ℕ → Numbers → At
+atOf ring w n = stands (getD (n .out) 0 0) (getD (n .out) 1 0) ring (getD (n .out) 5 0) w
 
-abbrev pub asReply : ℕ → Returned Numbers → Returned Reply
-asReply w = beside (λ n. record { answer = n .answer; address = getD (n .out) 4 0; stores = getD (n .out) 3 0; at = atOf w n })
+abbrev pub asReply : ℕ → ℕ → Returned Numbers → Returned Reply
+asReply ring w = beside (λ n. record { answer = n .answer; address = getD (n .out) 4 0; stores = getD (n .out) 3 0; at = atOf ring w n })
 
-abbrev pub asReport : ℕ → Returned Numbers → Returned Report
-asReport w = beside (λ n. record { answer = n .answer; address = getD (n .out) 4 0; steps = getD (n .out) 2 0; stores = getD (n .out) 3 0; at = atOf w n })
+abbrev pub asReport : ℕ → ℕ → Returned Numbers → Returned Report
+asReport ring w = beside (λ n. record { answer = n .answer; address = getD (n .out) 4 0; steps = getD (n .out) 2 0; stores = getD (n .out) 3 0; at = atOf ring w n })
 
 -- what a call was lent, and what it hands back, whatever the rest of the machine is
-abbrev pub HandsBack : (State → Returned Numbers → Type 0) → (Parts → Parts) → ℕ → ℕ → ℕ → ℕ → Lent → Type 0
-HandsBack D parts pc used w answer out =
-    (rest : Rest (parts unseenAll)) → D (lentTo (parts unseenAll) rest (record { pc = pc; used = used; writable = w }))
-    (returnedOf (memAfter (parts unseenAll) rest used) (record { answer = answer; out = now (out .exit) }))
+abbrev pub HandsBack : (State → Returned Numbers → Type 0) → (Parts → Parts) → At → ℕ → Lent → Type 0
+HandsBack D parts at answer out =
+    (rest : Rest (parts unseenAll)) → D (lentTo (parts unseenAll) rest at) (returnedBy (parts unseenAll) rest (record { answer = answer; out = now (out .exit) }))
 
-abbrev pub RepliesIn : (State → Returned Reply → Type 0) → (Parts → Parts) → ℕ → ℕ → ℕ → ℕ → Lent → Type 0
-RepliesIn D parts pc used w = HandsBack (λ s x. D s (asReply w x)) parts pc used w
+abbrev pub RepliesIn : (State → Returned Reply → Type 0) → (Parts → Parts) → ℕ → ℕ → ℕ → ℕ → ℕ → ℕ → Lent → Type 0
+RepliesIn D parts pc used ring place w = HandsBack (λ s x. D s (asReply ring w x)) parts (stands pc used ring place w)
 
-abbrev pub ReportsIn : (State → Returned Report → Type 0) → (Parts → Parts) → ℕ → ℕ → ℕ → ℕ → Lent → Type 0
-ReportsIn D parts pc used w = HandsBack (λ s x. D s (asReport w x)) parts pc used w
+abbrev pub ReportsIn : (State → Returned Report → Type 0) → (Parts → Parts) → ℕ → ℕ → ℕ → ℕ → ℕ → ℕ → Lent → Type 0
+ReportsIn D parts pc used ring place w = HandsBack (λ s x. D s (asReport ring w x)) parts (stands pc used ring place w)
 
--- ---- demand 3: any sequence of calls for C, each known by its contract, with one set of writable groups; what they hand back is counted as what
+-- ---- demand 3: any sequence of calls for C, each known by its contract, with one mode and one set of writable groups; what they hand back is counted as what
 -- bench's calls say
 
-abbrev pub standsIn : ℕ → Returned Numbers → State
-standsIn w x = standsAt x (atOf w (x .result))
+abbrev pub standsIn : ℕ → ℕ → Returned Numbers → State
+standsIn ring w x = standsAt x (atOf ring w (x .result))
 
-pub data HostCalled (w : ℕ) (s₀ : State) : List Said → State → Type 0 where
-  no-call : HostCalled w s₀ [] s₀
-  then-step : {l : List Said} {s : State} {x : Returned Numbers} → HostCalled w s₀ l s → Tells (heard w) oneStep s x
-      → HostCalled w s₀ (stepped (asReply w x .result) ∷ l) (standsIn w x)
-  then-back : {l : List Said} {s : State} {x : Returned Numbers} → HostCalled w s₀ l s → Tells (heard w) oneBack s x
-      → HostCalled w s₀ (backed (asReply w x .result) ∷ l) (standsIn w x)
-  then-run : {l : List Said} {s : State} (n : ℕ) {x : Returned Numbers} → HostCalled w s₀ l s → Tells (heard w) (run n) s x
-      → HostCalled w s₀ (ran (asReport w x .result) ∷ l) (standsIn w x)
+pub data HostCalled (ring w : ℕ) (s₀ : State) : List Said → State → Type 0 where
+  no-call : HostCalled ring w s₀ [] s₀
+  then-step : {l : List Said} {s : State} {x : Returned Numbers} → HostCalled ring w s₀ l s → Tells (heard ring w) oneStep s x
+      → HostCalled ring w s₀ (stepped (asReply ring w x .result) ∷ l) (standsIn ring w x)
+  then-back : {l : List Said} {s : State} {x : Returned Numbers} → HostCalled ring w s₀ l s → Tells (heard ring w) oneBack s x
+      → HostCalled ring w s₀ (backed (asReply ring w x .result) ∷ l) (standsIn ring w x)
+  then-run : {l : List Said} {s : State} (n : ℕ) {x : Returned Numbers} → HostCalled ring w s₀ l s → Tells (heard ring w) (run n) s x
+      → HostCalled ring w s₀ (ran (asReport ring w x .result) ∷ l) (standsIn ring w x)
 
 -- ---- the viewer
 

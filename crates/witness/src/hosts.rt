@@ -12,12 +12,26 @@ pub fn step(
     journal: &mut [u32],
     pc: u16,
     used: usize,
+    ring: u8,
+    place: usize,
     writable: u8,
-    out: &mut [u64; 5],
+    out: &mut [u64; 6],
 ) -> u8
-    ensures { λ r. ⌜ RepliesIn Step (Image image & Groups writable & Pad pad & Vram vdp & Regs reg & Journal journal) pc used writable r out ⌝ }
+    ensures { λ r. ⌜ RepliesIn Step (Image image & Groups writable & Pad pad & Vram vdp & Regs reg & Journal journal) pc used ring place writable r out ⌝ }
 {
-    export::argolythe_step(image, pad, vdp, reg, journal, pc, used, writable, out)
+    export::argolythe_step(
+        image,
+        pad,
+        vdp,
+        reg,
+        journal,
+        pc,
+        used,
+        ring,
+        place,
+        writable,
+        out,
+    )
 }
 
 // A step back that is refused has its cause, and leaves all as it was.
@@ -29,12 +43,26 @@ pub fn step_back(
     journal: &mut [u32],
     pc: u16,
     used: usize,
+    ring: u8,
+    place: usize,
     writable: u8,
-    out: &mut [u64; 5],
+    out: &mut [u64; 6],
 ) -> u8
-    ensures { λ r. ⌜ RepliesIn Back (Image image & Groups writable & Pad pad & Vram vdp & Regs reg & Journal journal) pc used writable r out ⌝ }
+    ensures { λ r. ⌜ RepliesIn Back (Image image & Groups writable & Pad pad & Vram vdp & Regs reg & Journal journal) pc used ring place writable r out ⌝ }
 {
-    export::argolythe_step_back(image, pad, vdp, reg, journal, pc, used, writable, out)
+    export::argolythe_step_back(
+        image,
+        pad,
+        vdp,
+        reg,
+        journal,
+        pc,
+        used,
+        ring,
+        place,
+        writable,
+        out,
+    )
 }
 
 // A run ends after n accepted steps, or at the first that is refused.
@@ -46,13 +74,28 @@ pub fn run(
     journal: &mut [u32],
     pc: u16,
     used: usize,
+    ring: u8,
+    place: usize,
     writable: u8,
     n: u32,
-    out: &mut [u64; 5],
+    out: &mut [u64; 6],
 ) -> u8
-    ensures { λ r. ⌜ ReportsIn (Run n) (Image image & Groups writable & Pad pad & Vram vdp & Regs reg & Journal journal) pc used writable r out ⌝ }
+    ensures { λ r. ⌜ ReportsIn (Run n) (Image image & Groups writable & Pad pad & Vram vdp & Regs reg & Journal journal) pc used ring place writable r out ⌝ }
 {
-    export::argolythe_run(image, pad, vdp, reg, journal, pc, used, writable, n, out)
+    export::argolythe_run(
+        image,
+        pad,
+        vdp,
+        reg,
+        journal,
+        pc,
+        used,
+        ring,
+        place,
+        writable,
+        n,
+        out,
+    )
 }
 
 // What is named by the offset and the length are the bytes that the rules show.

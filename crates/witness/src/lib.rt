@@ -15,7 +15,7 @@ ghost use Rattle.rules.specs.Calls;
 ghost use Rattle.machine.specs.Meaning.{_&_, Groups, Image, Journal, Pad, Regs, Vram};
 ghost use Rattle.bench.specs.Meaning.{memoryOf};
 ghost use Rattle.witness.specs.Demanded;
-ghost use Rattle.witness.specs.Demanded.{Meets, RepliesHome, StandsHome, TakenBack, KeptSteps, forgetting};
+ghost use Rattle.witness.specs.Demanded.{Meets, RepliesHome, TakenBack, BackAgain, Along, forgetting};
 
 // A step meets demand 1 or demand 2.
 pub fn step(
@@ -79,7 +79,21 @@ pub fn there_and_back(
     bench::walk::step_back(image, pad, vram, regs, journal, there)
 }
 
-// So many steps taken back, one by one.
+// How many accepted steps are not taken back, and where the machine stands.
+pub struct Kept {
+    pub steps: u32,
+    pub at: At,
+}
+
+// One step less where a step back was done.
+fn fewer(steps: u32, answer: u8) -> u32
+    requires { ⌜ (answer ≡ 0 → 0 < steps) ⌝ }
+    ensures { λ r. ⌜ r ≡ pick (eqb answer 0) (steps - 1) steps ⌝ }
+{
+    if answer == 0 { steps - 1 } else { steps }
+}
+
+// So many steps back: those that find no step kept are refused, and change nothing.
 pub fn take_back(
     image: &mut [u8],
     pad: &mut [u8],
@@ -88,20 +102,23 @@ pub fn take_back(
     journal: &mut [u32],
     at: At,
     n: u32,
-) -> At
+) -> Kept
     ensures { λ r. ⌜ TakenBack n (Image image & Groups (at .writable) & Pad pad & Vram vram & Regs regs & Journal journal) at r ⌝ }
 {
     let mut here = at;
+    let mut steps = n;
     let mut left = n;
     while 0 < left {
         let b = bench::walk::step_back(image, pad, vram, regs, journal, here);
         here = b.at;
+        steps = fewer(steps, b.answer);
         left = left - 1;
     }
-    here
+    Kept { steps, at: here }
 }
 
-// A run, and as many steps back as it made steps: address and memories are as before.
+// From an empty journal on a run, and as many steps back as it made steps: back to where the oldest kept step began. In a ring that may be far from the start,
+// else it is the start.
 pub fn run_and_back(
     image: &mut [u8],
     pad: &mut [u8],
@@ -110,66 +127,53 @@ pub fn run_and_back(
     journal: &mut [u32],
     at: At,
     n: u32,
-) -> At
-    ensures { λ r. ⌜ Meets StandsHome (Image image & Groups (at .writable) & Pad pad & Vram vram & Regs regs & Journal journal) at r ⌝ }
+) -> Kept
+    ensures { λ r. ⌜ Meets BackAgain (Image image & Groups (at .writable) & Pad pad & Vram vram & Regs regs & Journal journal) (forgetting at) r ⌝ }
 {
-    let r = bench::runs::run(image, pad, vram, regs, journal, at, n);
+    let start = At {
+        pc: at.pc,
+        used: 0,
+        ring: at.ring,
+        place: at.place,
+        writable: at.writable,
+    };
+    let r = bench::runs::run(image, pad, vram, regs, journal, start, n);
     let there = r.at;
     take_back(image, pad, vram, regs, journal, there, r.steps)
 }
 
-// How many accepted steps are not taken back, and where the machine stands.
-pub struct Kept {
-    pub steps: u64,
-    pub at: At,
-}
-
-// One step less where a step back was done.
-fn fewer(steps: u64, answer: u8) -> u64
-    requires { ⌜ (answer ≡ 0 → 0 < steps) ⌝ }
-    ensures { λ r. ⌜ r ≡ pick (eqb answer 0) (steps - 1) steps ⌝ }
-{
-    if answer == 0 { steps - 1 } else { steps }
-}
-
-// Any sequence of calls, from an empty journal on: 0 stands for a step back, any other n for a run of n. The steps kept are counted by the answers.
+// Any sequence of calls, from an empty journal on: 0 stands for a step back, any other n for a run of n.
 pub fn make_calls(
     image: &mut [u8],
     pad: &mut [u8],
     vram: &mut [u8],
     regs: &mut [u8],
     journal: &mut [u32],
-    pc: u16,
-    writable: u8,
+    at: At,
     calls: &[u32],
-) -> Kept
-    ensures { λ r. ⌜ Meets KeptSteps (Image image & Groups writable & Pad pad & Vram vram & Regs regs & Journal journal) (forgetting pc writable) r ⌝ }
+) -> At
+    ensures { λ r. ⌜ Meets Along (Image image & Groups (at .writable) & Pad pad & Vram vram & Regs regs & Journal journal) (forgetting at) r ⌝ }
 {
     let mut here = At {
-        pc,
+        pc: at.pc,
         used: 0,
-        writable,
+        ring: at.ring,
+        place: at.place,
+        writable: at.writable,
     };
-    let mut kept: u64 = 0;
     let mut i: usize = 0;
     while i < calls.len() {
         let n = calls[i];
         if n == 0 {
             let b = bench::walk::step_back(image, pad, vram, regs, journal, here);
             here = b.at;
-            kept = fewer(kept, b.answer);
         } else {
             let r = bench::runs::run(image, pad, vram, regs, journal, here, n);
-            let made = r.steps as u64;
             here = r.at;
-            kept = kept + made;
         }
         i = i + 1;
     }
-    Kept {
-        steps: kept,
-        at: here,
-    }
+    here
 }
 
 // What the viewer shows are the bytes that the rules show.

@@ -7,7 +7,7 @@ use Rattle.export.proofs.argolythe_step.Tie as tie
 returns : tie.Need-returns
 returns c =
     let at-argolythe-run = c .before .before .before .before .before .before .before .before .before .before in
-    λ _. heard-once _ (at-argolythe-run .argolythe-run .ensures _)
+    λ _. heard-once _ _ (at-argolythe-run .argolythe-run .ensures _)
 
 pub argolythe-step-spec : {M : Type 1} → statement M
 argolythe-step-spec =

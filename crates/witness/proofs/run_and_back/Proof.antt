@@ -1,7 +1,8 @@
 -- The run has led behind its steps, and they are taken back.
+use mathlib.Core.Path.{refl}
 use native.Mathlib.Omega.{arith}
-use Rattle.witness.proofs.Borne.{good-of, any-groups}
-use Rattle.witness.proofs.Unwound.{ran}
+use Rattle.witness.proofs.Borne.{good-of}
+use Rattle.witness.proofs.Counted.{ran-behind}
 use borrow.Author.Needs.{needs}
 use Rattle.witness.proofs.run_and_back.Statement.{statement}
 use Rattle.witness.proofs.run_and_back.Tie as tie
@@ -15,12 +16,9 @@ returns c =
     let at-slice-known2 = at-slice-known3 .before in
     let at-slice-known = at-slice-known2 .before in
     let start = at-slice-known .before in
-    λ _. any-groups (at-take-back .take-back .ensures _ _ (ran _
-    (good-of {at = start .args .at} (omega (arith, start .good .1 .1 .1 .1 .1 .0)) (omega (arith, start .good .1 .1 .1 .1 .1 .0))
-    (at-slice-known .slice-known .given) (at-slice-known2 .slice-known2 .given)
-    (at-slice-known3 .slice-known3 .given) (at-slice-known4 .slice-known4 .given)) (at-run .run .ensures _)))
+    λ _. at-take-back .take-back .ensures _ _ (ran-behind _ (good-of _ (omega (arith, start .good .1 .1 .1 .1 .1 .0)) (omega (arith, start .good .1 .1 .1 .1 .1 .0)) (at-slice-known .slice-known .given)
+    (at-slice-known2 .slice-known2 .given) (at-slice-known3 .slice-known3 .given) (at-slice-known4 .slice-known4 .given)) refl (at-run .run .ensures _))
 
 pub run-and-back-spec : {M : Type 1} → statement M
 run-and-back-spec =
-    tie.close (tie.spec (search needs) (search needs) (search needs) (search needs) (search needs) (search needs)
-    (search needs) returns)
+    tie.close (tie.spec (search needs) (search needs) (search needs) (search needs) (search needs) (search needs) (search needs) returns)

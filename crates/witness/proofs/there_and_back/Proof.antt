@@ -20,11 +20,10 @@ returns-2 c =
     let at-slice-known2 = at-slice-known3 .before in
     let at-slice-known = at-slice-known2 .before in
     let start = at-slice-known .before in
-    λ _. home-back (good-of (omega (arith, start .good .1 .1 .1 .1 .1)) (omega (arith, start .good .1 .1 .1 .1 .1)) (at-slice-known .slice-known .given)
-    (at-slice-known2 .slice-known2 .given) (at-slice-known3 .slice-known3 .given) (at-slice-known4 .slice-known4 .given))
-    (at-step .step .ensures _) (at-if1 .if1 .left) (at-step-back .step-back .ensures _)
+    λ _. home-back (good-of _ (omega (arith, start .good .1 .1 .1 .1 .1)) (omega (arith, start .good .1 .1 .1 .1 .1)) (at-slice-known .slice-known .given) (at-slice-known2 .slice-known2 .given)
+    (at-slice-known3 .slice-known3 .given) (at-slice-known4 .slice-known4 .given)) (at-step .step .ensures _) (at-if1 .if1 .left) (at-step-back .step-back .ensures _)
 
 pub there-and-back-spec : {M : Type 1} → statement M
 there-and-back-spec =
-    tie.close (tie.spec (search needs) (search needs) (search needs) (search needs) (search needs) (search needs) returns
-    (search needs) (search needs) (search needs) (search needs) (search needs) (search needs) returns-2)
+    tie.close (tie.spec (search needs) (search needs) (search needs) (search needs) (search needs) (search needs) returns (search needs)
+    (search needs) (search needs) (search needs) (search needs) (search needs) returns-2)

@@ -20,6 +20,13 @@ same-length c =
     let at-read-target = at-source .before .before .before .before .before .before .before .before .before in
     at-store-effect .store-effect .kept .0 ∙ at-source .source .kept .1 .0 ∙ at-read-target .read-target .kept .1 .0
 
+same-length-3 : tie.Need-same-length-3
+same-length-3 c =
+    let at-store-effect = c .before .before .before .before .before .before in
+    let at-source = at-store-effect .before .before .before .before .before .before .before .before .before in
+    let at-read-target = at-source .before .before .before .before .before .before .before .before .before in
+    at-store-effect .store-effect .kept .1 .1 .0 ∙ at-source .source .kept .1 .1 .1 .0 ∙ at-read-target .read-target .kept .1 .1 .1 .0
+
 returns : tie.Need-returns
 unfolding twoRule
 returns c =
@@ -33,4 +40,4 @@ returns c =
 pub two-spec : {M : Type 1} → statement M
 two-spec =
     tie.close (tie.spec (search needs) (search needs) (search needs) store-effect-requires same-length (search needs)
-    (search needs) returns)
+    same-length-3 returns)

@@ -20,6 +20,13 @@ same-length c =
     let at-read-target = at-source .before .before .before .before .before .before .before .before .before in
     at-store-halves .store-halves .kept .0 ∙ at-source .source .kept .1 .0 ∙ at-read-target .read-target .kept .1 .0
 
+same-length-3 : tie.Need-same-length-3
+same-length-3 c =
+    let at-store-halves = c .before .before .before .before .before .before in
+    let at-source = at-store-halves .before .before .before .before .before .before .before .before .before in
+    let at-read-target = at-source .before .before .before .before .before .before .before .before .before in
+    at-store-halves .store-halves .kept .1 .1 .0 ∙ at-source .source .kept .1 .1 .1 .0 ∙ at-read-target .read-target .kept .1 .1 .1 .0
+
 returns : tie.Need-returns
 unfolding mulRule
 returns c =
@@ -33,4 +40,4 @@ returns c =
 pub mul-spec : {M : Type 1} → statement M
 mul-spec =
     tie.close (tie.spec (search needs) (search needs) (search needs) store-halves-requires same-length (search needs)
-    (search needs) returns)
+    same-length-3 returns)

@@ -4,10 +4,9 @@ use Prim.Native.Nat.{_-_}
 use native.Mathlib.Omega.{arith}
 use lib.ListN.{length}
 use borrow.Author.Needs.{needs}
-use Rattle.rules.proofs.Fits.{both}
 use Rattle.bench.specs.Meaning.{stateAt}
-use Rattle.bench.proofs.Links.{fitting}
-use Rattle.bench.proofs.Ahead.{Underway, sets-out, grew, goes-on, stops, ends}
+use Rattle.bench.proofs.Links.{fitting-at}
+use Rattle.bench.proofs.Ahead.{Underway, sets-out, few, goes-on, stops, ends}
 use Rattle.bench.proofs.runs.fit_run.Statement.{statement}
 use Rattle.bench.proofs.runs.fit_run.Tie as tie
 
@@ -22,8 +21,7 @@ abbrev μ-loop : tie.MeasureT-loop
 loop-holds : tie.Need-loop-holds Inv-loop μ-loop
 loop-holds c =
     let start = c .before .before .before .before .before in (
-      sets-out (start .pre) (search needs) (search needs) (c .before .before .before .before .slice-known .given)
-          (c .before .before .before .slice-known2 .given) (c .before .before .slice-known3 .given) (c .before .slice-known4 .given),
+      sets-out _ (start .pre) (search needs) (search needs) (c .before .before .before .before .slice-known .given) (c .before .before .before .slice-known2 .given) (c .before .before .slice-known3 .given) (c .before .slice-known4 .given),
       refl,
       refl,
       refl,
@@ -34,7 +32,7 @@ loop-holds c =
 fit-step-requires : tie.Need-fit-step-requires Inv-loop μ-loop
 fit-step-requires c κs =
     let at-loop = c .before .before .before .before .before .before in
-    fitting (both (at-loop .loop .inv .0 .fit) .1)
+    fitting-at (at-loop .loop .image) (at-loop .loop .inv .0 .fit)
 
 returns : tie.Need-returns Inv-loop μ-loop
 returns c =
@@ -47,13 +45,14 @@ add-stores : tie.Need-add-stores Inv-loop μ-loop
 add-stores c =
     let at-fit-step = c .before .before .before .before .before .before .before .before .before .before .before .before .before .before in
     let at-loop = at-fit-step .before .before .before .before .before .before .before in
-    omega (arith, grew (at-loop .loop .inv .0) (at-fit-step .fit-step .ensures _) (c .before .if1 .left))
+    let start = at-loop .before .before .before .before .before .before in
+    record { fits = omega (arith, few (at-loop .loop .inv .0) (at-fit-step .fit-step .ensures _) (c .before .if1 .left), at-loop .loop .inv .0 .stored, at-loop .loop .inv .0 .made, start .fits .n .fits) }
 
 add-done : tie.Need-add-done Inv-loop μ-loop
 add-done c =
     let at-loop-test = c .before .before .before .before .before .before .before .before .before .before .before .before .before .before .before .before .before .before .before .before in
     let start = at-loop-test .before .before .before .before .before .before .before in
-    omega (arith, at-loop-test .loop-test .taken, start .fits .n .fits)
+    record { fits = omega (arith, at-loop-test .loop-test .taken, start .fits .n .fits) }
 
 loop-again : tie.Need-loop-again Inv-loop μ-loop
 loop-again c =
@@ -73,6 +72,5 @@ returns-2 c = λ _. ends (c .before .loop .inv .0) (search needs)
 
 pub fit-run-spec : {M : Type 1} → statement M
 fit-run-spec =
-    tie.close (tie.spec Inv-loop μ-loop loop-holds fit-step-requires (search needs) (search needs) (search needs)
-    (search needs) (search needs) returns add-stores add-done (search needs) loop-again (search needs) (search needs)
-    (search needs) (search needs) (search needs) returns-2)
+    tie.close (tie.spec Inv-loop μ-loop loop-holds fit-step-requires (search needs) (search needs) (search needs) (search needs) (search needs)
+    returns add-stores add-done (search needs) loop-again (search needs) (search needs) (search needs) (search needs) (search needs) returns-2)

@@ -7,15 +7,20 @@ use Rattle.bench.proofs.walk.fit_step.Statement.{statement}
 use Rattle.bench.proofs.walk.fit_step.Tie as tie
 
 returns : tie.Need-returns
-returns c = λ _. rw (c .refused .ensures) (step-beyond (from (c .before .before .before .before .begin .ensures) (c .before .before .before .next-byte .ensures _)) (c .before .if1 .taken))
+returns c = λ _. rw (c .refused .ensures) (step-beyond (from _ (c .before .before .before .before .begin .ensures) (c .before .before .before .next-byte .ensures _)) (c .before .if1 .taken))
 
 returns-2 : tie.Need-returns-2
 returns-2 c =
     let at-if1 = c .before .before .before .before .before in
     let at-next-byte = at-if1 .before .before in
     let at-begin = at-next-byte .before in
-    λ _. rw (c .turned-down .ensures) (step-halted (from (at-begin .begin .ensures) (at-next-byte .next-byte .ensures _)) (at-if1 .if1 .left)
+    λ _. rw (c .turned-down .ensures) (step-halted (from _ (at-begin .begin .ensures) (at-next-byte .next-byte .ensures _)) (at-if1 .if1 .left)
     (ap meant (sym (c .before .before .class .given .1)) ∙ c .before .before .before .before .class-of .ensures))
+
+do-task-requires : tie.Need-do-task-requires
+do-task-requires c κs =
+    let start = c .before .before .before .before .before .before .before .before .before .before .before .before .before .before .before .before .before .before .before in
+    record { pad = start .pre .pad; vram = start .pre .vram; regs = start .pre .regs; used = start .pre .used }
 
 returns-3 : tie.Need-returns-3
 returns-3 c =
@@ -25,11 +30,10 @@ returns-3 c =
     let at-if1 = at-class-of .before in
     let at-next-byte = at-if1 .before .before in
     let at-begin = at-next-byte .before in
-    λ _. step-does (from (at-begin .begin .ensures) (at-next-byte .next-byte .ensures _)) (at-if1 .if1 .left)
+    λ _. step-does _ (from _ (at-begin .begin .ensures) (at-next-byte .next-byte .ensures _)) (at-if1 .if1 .left)
     (ap meant (sym (at-class2 .class2 .given .1)) ∙ at-class-of .class-of .ensures) (at-do-task .do-task .ensures _)
 
 pub fit-step-spec : {M : Type 1} → statement M
 fit-step-spec =
-    tie.close (tie.spec (search needs) (search needs) (search needs) (search needs) returns (search needs) (search needs)
-    (search needs) (search needs) (search needs) (search needs) returns-2 (search needs) (search needs) (search needs)
-    (search needs) (search needs) returns-3)
+    tie.close (tie.spec (search needs) (search needs) (search needs) (search needs) returns (search needs) (search needs) (search needs)
+    (search needs) do-task-requires (search needs) returns-2 (search needs) (search needs) (search needs) (search needs) (search needs) returns-3)

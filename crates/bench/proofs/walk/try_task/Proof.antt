@@ -9,9 +9,9 @@ returns c =
     let at-perform = c .before .before .before .before .before .before .before .before .before .before in
     let at-take-mark = at-perform .before .before .before .before .before .before .before .before in
     let at-begin = at-take-mark .before in
-    λ _. tries (at-begin .begin .ensures) (at-take-mark .take-mark .ensures _) (at-perform .perform .ensures _)
+    λ _. tries _ (at-begin .begin .ensures) (at-take-mark .take-mark .ensures _) (at-perform .perform .ensures _)
 
 pub try-task-spec : {M : Type 1} → statement M
 try-task-spec =
-    tie.close (tie.spec (search needs) (search needs) (search needs) (search needs) (search needs) (search needs)
-    (search needs) (search needs) returns)
+    tie.close (tie.spec (search needs) (search needs) (search needs) (search needs) (search needs) (search needs) (search needs) (search needs)
+    returns)

@@ -1,9 +1,16 @@
 -- The byte read, the screen filled with it, and the cursor at its start.
+use mathlib.Core.Path.{_∙_}
 use Rattle.rules.specs.Instructions.{allRule}
 use Rattle.machine.proofs.Chain.{bind, seq}
 use borrow.Author.Needs.{needs}
 use Rattle.block.proofs.screen.all.Statement.{statement}
 use Rattle.block.proofs.screen.all.Tie as tie
+
+poke-pad-requires-2 : tie.Need-poke-pad-requires-2
+poke-pad-requires-2 c κs =
+    let at-poke-pad = c .before .before .before .before .before .before in
+    let start = at-poke-pad .before .before .before .before .before .before .before .before .before .before .before .before .before .before .before in
+    at-poke-pad .poke-pad .kept .0 ∙ start .pre .0
 
 returns : tie.Need-returns
 unfolding allRule
@@ -17,5 +24,4 @@ returns c =
 
 pub all-spec : {M : Type 1} → statement M
 all-spec =
-    tie.close (tie.spec (search needs) (search needs) (search needs) (search needs) (search needs) (search needs) (search needs)
-    returns)
+    tie.close (tie.spec (search needs) (search needs) (search needs) poke-pad-requires-2 (search needs) (search needs) (search needs) returns)

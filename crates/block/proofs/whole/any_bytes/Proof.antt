@@ -34,6 +34,12 @@ returns c =
     λ _. ends (turns (at-loop .loop .inv .0 _) (up (moves _ _) refl (at-loop-test .loop-test .taken)) (at-move-byte .move-byte .ensures _))
     (still (c .if1 .taken))
 
+add-k : tie.Need-add-k Inv-loop μ-loop
+add-k c =
+    let at-loop-test = c .before .before .before .before .before .before .before .before .before .before .before .before .before .before .before .before .before .before in
+    let start = at-loop-test .before .before .before .before .before .before .before in
+    record { fits = omega (arith, at-loop-test .loop-test .taken, start .fits .n .fits) }
+
 loop-again : tie.Need-loop-again Inv-loop μ-loop
 loop-again c =
     let at-move-byte = c .before .before .before .before .before .before .before .before .before .before .before .before in
@@ -54,5 +60,5 @@ returns-2 c = λ _. over (c .before .loop .inv .0 _) (none-left (moves _ _) _ (o
 
 pub any-bytes-spec : {M : Type 1} → statement M
 any-bytes-spec =
-    tie.close (tie.spec Inv-loop μ-loop loop-holds (search needs) (search needs) (search needs) (search needs) (search needs)
-    (search needs) returns (search needs) (search needs) loop-again (search needs) (search needs) (search needs) (search needs) (search needs) returns-2)
+    tie.close (tie.spec Inv-loop μ-loop loop-holds (search needs) (search needs) (search needs) (search needs) (search needs) (search needs) returns
+    add-k (search needs) loop-again (search needs) (search needs) (search needs) (search needs) (search needs) returns-2)

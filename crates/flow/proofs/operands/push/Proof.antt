@@ -1,5 +1,6 @@
 -- The value, the pointer, its test and its store, and the low byte there.
 use mathlib.Core.Path.{refl, _∙_}
+use native.Mathlib.Omega.{arith}
 use Rattle.rules.specs.Machine.{cpu}
 use Rattle.rules.specs.Answers.{offStack}
 use Rattle.rules.specs.Rules.{need, poke}
@@ -14,6 +15,11 @@ poke-pad-requires c κs =
     let at-operand-value = c .before .before .before .before .before .before .before .before .before .before .before in
     let start = at-operand-value .before .before .before .before .before .before .before in
     at-operand-value .operand-value .kept .1 .0 ∙ start .pre .0
+
+cast-at : tie.Need-cast-at
+cast-at c =
+    let at-peek-pad = c .before .before .before .before .before .before .before .before .before .before in
+    record { fits = omega (arith, at-peek-pad .peek-pad .ok) }
 
 poke-pad-requires-2 : tie.Need-poke-pad-requires-2
 poke-pad-requires-2 c κs =
@@ -51,5 +57,5 @@ returns c =
 
 pub push-spec : {M : Type 1} → statement M
 push-spec =
-    tie.close (tie.spec (search needs) (search needs) (search needs) (search needs) (search needs) (search needs) (search needs)
-    poke-pad-requires (search needs) (search needs) poke-pad-requires-2 same-length same-length-2 returns)
+    tie.close (tie.spec (search needs) (search needs) (search needs) (search needs) (search needs) (search needs) (search needs) poke-pad-requires
+    cast-at (search needs) poke-pad-requires-2 same-length same-length-2 returns)

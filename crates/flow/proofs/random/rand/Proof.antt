@@ -11,6 +11,12 @@ use borrow.Author.Needs.{needs}
 use Rattle.flow.proofs.random.rand.Statement.{statement}
 use Rattle.flow.proofs.random.rand.Tie as tie
 
+poke-pad-requires : tie.Need-poke-pad-requires
+poke-pad-requires c κs =
+    let at-poke-pad-word = c .before .before .before .before .before .before .before .before in
+    let start = at-poke-pad-word .before .before .before .before .before .before .before .before .before in
+    at-poke-pad-word .poke-pad-word .kept .0 ∙ start .pre
+
 returns : tie.Need-returns
 unfolding randRule
 returns c =
@@ -27,5 +33,5 @@ returns c =
 
 pub rand-spec : {M : Type 1} → statement M
 rand-spec =
-    tie.close (tie.spec (search needs) (search needs) (search needs) (search needs) (search needs) (search needs) (search needs)
-    (search needs) returns)
+    tie.close (tie.spec (search needs) (search needs) (search needs) (search needs) (search needs) poke-pad-requires (search needs) (search needs)
+    returns)

@@ -5,6 +5,11 @@ use borrow.Author.Needs.{needs}
 use Rattle.format.proofs.cursor.show.Statement.{statement}
 use Rattle.format.proofs.cursor.show.Tie as tie
 
+set-cursor-requires : tie.Need-set-cursor-requires
+set-cursor-requires c κs =
+    let start = c .before .before .before .before .before .before .before .before .before .before .before .before .before .before .before .before .before in
+    start .pre .0
+
 returns : tie.Need-returns
 unfolding show
 returns c =
@@ -16,5 +21,5 @@ returns c =
 
 pub show-spec : {M : Type 1} → statement M
 show-spec =
-    tie.close (tie.spec (search needs) (search needs) (search needs) (search needs) (search needs) (search needs) (search needs) (search needs)
+    tie.close (tie.spec (search needs) (search needs) (search needs) (search needs) (search needs) set-cursor-requires (search needs) (search needs)
     (search needs) returns)

@@ -17,7 +17,7 @@ returns c =
     let at-now-of = c .before .before .before .before .before in
     let at-operand = at-now-of .before .before .before .before .before in
     λ _.
-    bind _ (apart (at-operand .operand .result) (at-operand .operand .ensures .1 _) (at-now-of .now-of .ensures)
+    bind _ (apart _ (at-operand .operand .result) (at-operand .operand .ensures .1 _) (at-now-of .now-of .ensures)
     (c .before .before .before .before .place-of .ensures))
     (seq (via₂ (λ (t : Bool) (a : ℕ). need t (offCpu a)) (c .before .before .is-cpu .ensures) (c .before .before .before .offset-of .ensures) (c .before .need .ensures _))
     (via give (c .before .before .before .offset-of .ensures) (c .give-word .ensures .1 _)))

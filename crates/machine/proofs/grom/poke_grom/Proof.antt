@@ -1,12 +1,12 @@
 -- The store of whichever memory, in the machine that has the rest beside it.
 use mathlib.Core.List.{[]}
-use Rattle.rules.specs.Machine.{mem}
+use Rattle.machine.specs.Meaning.{unbooked}
 use borrow.Author.Needs.{needs}
 use Rattle.machine.proofs.grom.poke_grom.Statement.{statement}
 use Rattle.machine.proofs.grom.poke_grom.Tie as tie
 
 returns : tie.Need-returns
-returns c = λ rest. c .before .before .before .before .store .ensures (mem [] 0 (rest .pad) (rest .vram) (rest .regs) [] 0)
+returns c = λ rest. c .before .before .before .before .store .ensures (unbooked [] 0 (rest .pad) (rest .vram) (rest .regs) [])
 
 pub poke-grom-spec : {M : Type 1} → statement M
 poke-grom-spec =

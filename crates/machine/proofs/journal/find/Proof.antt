@@ -3,25 +3,27 @@ use mathlib.Core.Path.{_≡_, refl, _∙_, sym}
 use Prim.Native.Nat.{_-_, _≤_}
 use native.Mathlib.Omega.{arith}
 use Rattle.rules.specs.Machine.{areaOf}
+use Rattle.rules.specs.Journal.{turned}
 use Rattle.rules.specs.Calls.{scan}
-use Rattle.machine.proofs.Words.{denied, granted, higher, scan-start, scan-on, scan-mark, scan-bad, scan-end}
+use Rattle.rules.proofs.Tests.{denied, granted}
+use Rattle.machine.proofs.Words.{higher, scan-start, scan-on, scan-mark, scan-bad, scan-end}
 use borrow.Author.Needs.{needs}
 use Rattle.machine.proofs.journal.find.Statement.{statement}
 use Rattle.machine.proofs.journal.find.Tie as tie
 
 abbrev Inv-loop : tie.InvT-loop
-Inv-loop journal used size groups u₀ u =
-    (scan (areaOf size groups) used journal ≡ higher (used - u) (scan (areaOf size groups) u journal)) × (u ≤ used)
+Inv-loop journal b size groups used u₀ u =
+    (scan (areaOf size groups) used (turned (b .ring) (b .place) journal) ≡ higher (used - u) (scan (areaOf size groups) u (turned (b .ring) (b .place) journal))) × (u ≤ used)
 
 abbrev μ-loop : tie.MeasureT-loop
-μ-loop journal used size groups u₀ u = u
+μ-loop journal b size groups used u₀ u = u
 
 loop-holds : tie.Need-loop-holds Inv-loop μ-loop
 loop-holds c = (scan-start _ _ _, omega arith)
 
 returns : tie.Need-returns Inv-loop μ-loop
 returns c = (
-  scan-bad _ _ _ _ _ (c .before .before .before .before .loop .inv .0) _ (c .before .before .before .loop-test .taken) refl
+  scan-bad _ _ _ _ _ (c .before .before .before .before .loop .inv .0) _ (c .before .before .before .loop-test .taken) (c .before .before .word-at .ensures)
       (sym (c .before .sound .ensures) ∙ denied (c .before .sound .result) (c .if1 .taken)),
   λ _. refl,
 )
@@ -30,9 +32,8 @@ returns-2 : tie.Need-returns-2 Inv-loop μ-loop
 returns-2 c =
     let at-loop-test = c .before .before .before .before .before in
     let at-loop = at-loop-test .before in (
-      scan-mark _ _ _ _ _ (at-loop .loop .inv .0) _ _ _ (at-loop-test .loop-test .taken) (at-loop .loop .inv .1) refl
-          (sym (c .before .before .before .sound .ensures) ∙ granted (c .before .before .before .sound .result) (c .before .before .if1 .left))
-          (c .before .kind-of .ensures) (c .if2 .taken) refl,
+      scan-mark _ _ _ _ _ (at-loop .loop .inv .0) _ _ _ (at-loop-test .loop-test .taken) (at-loop .loop .inv .1) (c .before .before .before .before .word-at .ensures)
+          (sym (c .before .before .before .sound .ensures) ∙ granted (c .before .before .before .sound .result) (c .before .before .if1 .left)) (c .before .kind-of .ensures) (c .if2 .taken) refl,
       λ z. absurd (omega (arith, at-loop .loop .inv .1, at-loop-test .loop-test .taken)),
     )
 
@@ -40,9 +41,8 @@ loop-again : tie.Need-loop-again Inv-loop μ-loop
 loop-again c =
     let at-loop-test = c .before .before .before .before .before in
     let at-loop = at-loop-test .before in (
-      scan-on _ _ _ _ _ (at-loop .loop .inv .0) _ _ (at-loop-test .loop-test .taken) (at-loop .loop .inv .1) refl
-          (sym (c .before .before .before .sound .ensures) ∙ granted (c .before .before .before .sound .result) (c .before .before .if1 .left))
-          (c .before .kind-of .ensures) (c .if2 .left),
+      scan-on _ _ _ _ _ (at-loop .loop .inv .0) _ _ (at-loop-test .loop-test .taken) (at-loop .loop .inv .1) (c .before .before .before .before .word-at .ensures)
+          (sym (c .before .before .before .sound .ensures) ∙ granted (c .before .before .before .sound .result) (c .before .before .if1 .left)) (c .before .kind-of .ensures) (c .if2 .left),
       omega arith,
     )
 
@@ -51,5 +51,5 @@ returns-3 c = (scan-end _ _ _ _ _ (c .before .loop .inv .0) (c .loop-test .left)
 
 pub find-spec : {M : Type 1} → statement M
 find-spec =
-    tie.close (tie.spec Inv-loop μ-loop loop-holds (search needs) (search needs) (search needs) (search needs) returns
-    (search needs) (search needs) (search needs) returns-2 (search needs) loop-again returns-3)
+    tie.close (tie.spec Inv-loop μ-loop loop-holds (search needs) (search needs) (search needs) returns (search needs) (search needs) (search needs)
+    returns-2 (search needs) loop-again returns-3)

@@ -11,26 +11,27 @@ use Rattle.machine.proofs.journal.undo.Statement.{statement}
 use Rattle.machine.proofs.journal.undo.Tie as tie
 
 abbrev Inv-loop : tie.InvT-loop
-Inv-loop image₀ pad₀ vram₀ regs₀ journal₀ used n u₀ done₀ image pad vram regs journal u done =
-    Became (undo done) (imageFrom image₀ image & padFrom pad₀ pad & vramFrom vram₀ vram & regsFrom regs₀ regs & journalFrom journal₀ journal) used u
+Inv-loop image₀ pad₀ vram₀ regs₀ journal₀ n b₀ done₀ image pad vram regs journal b done =
+    Became (undo done) (imageFrom image₀ image & padFrom pad₀ pad & vramFrom vram₀ vram & regsFrom regs₀ regs & journalFrom journal₀ journal) b₀ b
     × (length image ≡ length image₀) × (length pad ≡ length pad₀) × (length vram ≡ length vram₀) × (length regs ≡ length regs₀) × (length journal ≡ length journal₀)
-    × (u ≤ length journal) × (done ≤ n)
+    × (b .used ≤ length journal) × (done ≤ n)
 
 abbrev μ-loop : tie.MeasureT-loop
-μ-loop image₀ pad₀ vram₀ regs₀ journal₀ used n u₀ done₀ image pad vram regs journal u done = n - done
+μ-loop image₀ pad₀ vram₀ regs₀ journal₀ n b₀ done₀ image pad vram regs journal b done = n - done
 
 loop-holds : tie.Need-loop-holds Inv-loop μ-loop
 unfolding undo
-loop-holds c = (λ _. refl, refl, refl, refl, refl, refl, omega arith, omega arith)
+loop-holds c =
+    let start = c .before .before .before .before .before in
+    (λ _. refl, refl, refl, refl, refl, refl, start .pre, omega arith)
 
 loop-again : tie.Need-loop-again Inv-loop μ-loop
 loop-again c =
     let at-undo-top = c .before .before .before .before .before .before .before .before .before .before in
     let at-loop = at-undo-top .before .before .before .before .before .before .before in
-    let fewer : at-undo-top .undo-top .result ≤ at-loop .loop .u = undone-used _ _ _
+    let fewer : at-undo-top .undo-top .result .used ≤ at-loop .loop .b .used = undone-used _ _ _
     (at-undo-top .undo-top .ensures (record { image = tt; groups = 0; pad = tt; vram = tt; regs = tt; journal = tt })) refl in (
-      λ _. at-undo-top .undo-top .ensures _ ∙ undo-more _ _ _
-          (at-loop .loop .inv .0 _),
+      λ _. at-undo-top .undo-top .ensures _ ∙ undo-more _ _ _ (at-loop .loop .inv .0 _),
       search needs,
       search needs,
       search needs,
@@ -45,5 +46,5 @@ returns c = λ _. undo-end _ (c .before .loop .inv .0 _) (omega arith)
 
 pub undo-spec : {M : Type 1} → statement M
 undo-spec =
-    tie.close (tie.spec Inv-loop μ-loop loop-holds (search needs) (search needs) (search needs) loop-again (search needs)
-    (search needs) (search needs) (search needs) (search needs) returns)
+    tie.close (tie.spec Inv-loop μ-loop loop-holds (search needs) (search needs) (search needs) loop-again (search needs) (search needs)
+    (search needs) (search needs) (search needs) returns)

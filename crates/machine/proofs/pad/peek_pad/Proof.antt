@@ -1,12 +1,12 @@
 -- The load of whichever memory, in the machine that has the rest beside it.
 use mathlib.Core.List.{[]}
-use Rattle.rules.specs.Machine.{mem}
+use Rattle.machine.specs.Meaning.{unbooked}
 use borrow.Author.Needs.{needs}
 use Rattle.machine.proofs.pad.peek_pad.Statement.{statement}
 use Rattle.machine.proofs.pad.peek_pad.Tie as tie
 
 returns : tie.Need-returns
-returns c = λ rest. c .load .ensures (mem (rest .image) (rest .groups) [] (rest .vram) (rest .regs) (rest .journal) 0)
+returns c = λ rest. c .load .ensures (unbooked (rest .image) (rest .groups) [] (rest .vram) (rest .regs) (rest .journal))
 
 pub peek-pad-spec : {M : Type 1} → statement M
 peek-pad-spec =

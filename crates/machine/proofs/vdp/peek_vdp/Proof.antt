@@ -1,12 +1,12 @@
 -- The load of whichever memory, in the machine that has the rest beside it.
 use mathlib.Core.List.{[]}
-use Rattle.rules.specs.Machine.{mem}
+use Rattle.machine.specs.Meaning.{unbooked}
 use borrow.Author.Needs.{needs}
 use Rattle.machine.proofs.vdp.peek_vdp.Statement.{statement}
 use Rattle.machine.proofs.vdp.peek_vdp.Tie as tie
 
 returns : tie.Need-returns
-returns c = λ rest. c .load .ensures (mem (rest .image) (rest .groups) (rest .pad) [] (rest .regs) (rest .journal) 0)
+returns c = λ rest. c .load .ensures (unbooked (rest .image) (rest .groups) (rest .pad) [] (rest .regs) (rest .journal))
 
 pub peek-vdp-spec : {M : Type 1} → statement M
 peek-vdp-spec =

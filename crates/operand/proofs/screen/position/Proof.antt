@@ -10,7 +10,7 @@ use Rattle.operand.proofs.screen.position.Tie as tie
 returns : tie.Need-returns
 unfolding position
 returns c = (
-  omega (arith, c .give-word .ensures .0, c .before .position-of .ensures),
+  omega (arith, c .give-word .ensures .0, c .before .position-of .ensures, c .before .before .before .peek-pad .ok),
   λ _. bind _ (c .before .before .before .peek-pad .ensures _) (bind _ (c .before .before .peek-pad2 .ensures _)
       (via give (c .before .position-of .ensures) (c .give-word .ensures .1 _))),
 )

@@ -18,7 +18,7 @@ returns c =
       c .before .before .before .before .value .ensures .0,
       λ f _. further
           (leaves (λ (x : Cell). value (start .args .wide) x >>= f x)
-          (apart (at-operand .operand .result) (via operandOf (at-byte-count .byte-count .ensures .0) (at-operand .operand .ensures .1 _))
+          (apart _ (at-operand .operand .result) (via operandOf (at-byte-count .byte-count .ensures .0) (at-operand .operand .ensures .1 _))
           (at-now-of .now-of .ensures) (at-place-of .place-of .ensures)))
           (leaves (f _) (c .before .before .before .before .value .ensures .1 _)),
     )

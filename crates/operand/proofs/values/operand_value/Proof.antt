@@ -14,7 +14,7 @@ returns c =
     let at-operand = at-now-of .before .before .before .before .before in
     let at-byte-count = at-operand .before in (
       c .before .before .before .before .value .ensures .0,
-      λ _. bind _ (apart (at-operand .operand .result) (via operandOf (at-byte-count .byte-count .ensures .0) (at-operand .operand .ensures .1 _))
+      λ _. bind _ (apart _ (at-operand .operand .result) (via operandOf (at-byte-count .byte-count .ensures .0) (at-operand .operand .ensures .1 _))
           (at-now-of .now-of .ensures) (at-place-of .place-of .ensures)) (c .before .before .before .before .value .ensures .1 _),
     )
 

@@ -1,6 +1,7 @@
 -- The buffer keeps its length; each turn takes the next field.
 use mathlib.Core.Path.{_≡_, sym, _∙_}
 use Prim.Native.Nat.{_-_}
+use native.Mathlib.Omega.{arith}
 use lib.ListN.{length}
 use lib.Seq.{length-take-le}
 use borrow.Author.Needs.{needs}
@@ -28,6 +29,12 @@ same-length-2 c =
 returns-2 : tie.Need-returns-2 Inv-loop μ-loop
 returns-2 c = search needs
 
+loop-less-2 : tie.Need-loop-less-2 Inv-loop μ-loop
+loop-less-2 c =
+    let at-field-at = c .before .before .before .before .before .before .before .before .before .before .before .before .before .before .before .before .before .before in
+    let at-if1 = at-field-at .before in
+    omega (arith, at-field-at .field-at .ensures .2, at-field-at .field-at .ensures .3, at-if1 .if1 .taken)
+
 loop-again-2 : tie.Need-loop-again-2 Inv-loop μ-loop
 loop-again-2 c =
     let at-obey-field = c .before .before .before in
@@ -39,6 +46,6 @@ returns-3 c = search needs
 
 pub obey-fields-spec : {M : Type 1} → statement M
 obey-fields-spec =
-    tie.close (tie.spec Inv-loop μ-loop (search needs) (search needs) (search needs) (search needs) (search needs)
-    slice-aggregate-line (search needs) (search needs) (search needs) (search needs) (search needs) returns (search needs)
-    same-length-2 returns-2 (search needs) loop-again-2 (search needs) returns-3)
+    tie.close (tie.spec Inv-loop μ-loop (search needs) (search needs) (search needs) (search needs) (search needs) slice-aggregate-line
+    (search needs) (search needs) (search needs) (search needs) (search needs) returns (search needs) same-length-2 returns-2 loop-less-2
+    loop-again-2 (search needs) returns-3)
