@@ -1011,19 +1011,36 @@ static void some_mode(struct dice *d, const struct test_case *c, struct call *ca
         call->n %= RING_RUN;
 }
 
-static void fill_call(struct writer *w, const struct test_case *c, struct call *call)
+/* All parts as they are. */
+static void lend_all(const struct test_case *c, struct call *call)
 {
-    struct dice *d = w->dice;
-    uint32_t r = below(d, 100);
-
     memset(call, 0, sizeof *call);
-    call->kind = r < 45 ? CALL_STEP : r < 70 ? CALL_RUN : r < 91 ? CALL_BACK : CALL_VIEW;
     call->image_len = c->image_len;
     call->pad_len = CASE_PAD_LEN;
     call->vdp_len = CASE_VDP_LEN;
     call->reg_len = CASE_REG_LEN;
     call->journal_len = c->journal_len;
     call->writable = c->writable;
+}
+
+static void some_pad_byte(struct dice *d, struct call *call)
+{
+    static const uint8_t cells[] = {0x72, 0x73, 0x73, 0x7C, 0x7E, 0x7F};
+
+    call->set_pad = true;
+    call->pad_at = (uint8_t)(one_in(d, 2) ? PICK(d, cells) : below(d, 256));
+    call->pad_byte = (uint8_t)(call->pad_at == 0x72   ? between(d, 0x9E, 0xC0)
+                               : call->pad_at == 0x73 ? between(d, 0x7D, 0xA0)
+                                                      : below(d, 256));
+}
+
+static void fill_call(struct writer *w, const struct test_case *c, struct call *call)
+{
+    struct dice *d = w->dice;
+    uint32_t r = below(d, 100);
+
+    lend_all(c, call);
+    call->kind = r < 45 ? CALL_STEP : r < 70 ? CALL_RUN : r < 91 ? CALL_BACK : CALL_VIEW;
     call->n = some_run(d);
     some_mode(d, c, call);
     if (call->kind == CALL_VIEW)
@@ -1039,15 +1056,82 @@ static void fill_call(struct writer *w, const struct test_case *c, struct call *
         call->pc = (uint16_t)(w->labels > 0 && percent(d, 90) ? w->label[below(d, (uint32_t)w->labels)]
                                                               : some_address(w));
     }
-    if (percent(d, 10)) {
-        static const uint8_t cells[] = {0x72, 0x73, 0x73, 0x7C, 0x7E, 0x7F};
-        call->set_pad = true;
-        call->pad_at = (uint8_t)(one_in(d, 2) ? PICK(d, cells) : below(d, 256));
-        call->pad_byte = (uint8_t)(call->pad_at == 0x72   ? between(d, 0x9E, 0xC0)
-                                   : call->pad_at == 0x73 ? between(d, 0x7D, 0xA0)
-                                                          : below(d, 256));
+    if (percent(d, 10))
+        some_pad_byte(d, call);
+    if (percent(d, 4))
+        call->drop_used = one_in(d, 4) ? SIZE_MAX : between(d, 1, 20);
+}
+
+/* ---- who wrote a cell? ---- */
+
+/* A cell in reach of its memory: any, one of those that many steps store to, or the last. */
+static void some_reached_cell(struct dice *d, struct call *call)
+{
+    static const uint8_t memories[] = {0, 0, 0, 1, 2, 4};
+    static const uint8_t cells[] = {0x72, 0x73, 0x78, 0x7C, 0x7C, 0x7D, 0x7E, 0x7F, 0x80, 0x81, 0xC0, 0xC1, 0xD4};
+    uint32_t memory = PICK(d, memories);
+    uint32_t reach = memory == 0 ? 0xE0 : memory == 1 ? 0x4000 : memory == 2 ? 8 : (uint32_t)call->image_len;
+
+    call->memory = (int)memory;
+    call->at = percent(d, 10) ? reach - 1 : below(d, reach);
+    if (memory == 0 && one_in(d, 2))
+        call->at = PICK(d, cells);
+    if (memory == 1 && one_in(d, 2))
+        call->at = below(d, 768);
+}
+
+/* A cell out of reach, or of a memory that isn't there. */
+static void some_missing_cell(struct dice *d, struct call *call)
+{
+    static const uint8_t memories[] = {0, 1, 2, 4, 3, 3, 5, 6, 7, 8, 9, 10, 12, 0x20, 0x24, 0x80, 0x84, 0xFC, 0xFF};
+    static const uint16_t first_out[] = {0xE0, 0x4000, 8};
+
+    call->memory = PICK(d, memories);
+    if (call->memory == 4)
+        call->at = call->image_len & 0xFFFF; /* GROM 0, if the image is whole */
+    else if (call->memory < 3)
+        call->at = first_out[call->memory];
+    else
+        call->at = below(d, 8); /* which three memories have */
+    if (one_in(d, 3))
+        call->at = edge_word(d);
+}
+
+/* Mostly the cell of a store that the journal has, or its neighbour. */
+static void some_cell(struct dice *d, struct call *call)
+{
+    uint32_t r = below(d, 100);
+
+    if (r < 90)
+        some_reached_cell(d, call);
+    else
+        some_missing_cell(d, call);
+    call->by_word = r < 65;
+    call->by_store = percent(d, 92); /* else a mark's pc is taken for a cell, now and then */
+    call->word_below = percent(d, 60) ? below(d, 12) : below(d, 400);
+    call->beside = r < 45 ? 0 : r < 60 ? (one_in(d, 2) ? 1 : -1) : 0;
+    call->memory_more = r >= 60 ? (int)(8 * between(d, 1, 31)) : 0;
+}
+
+/* After the calls; the last one may meet a damaged journal. */
+static void fill_ask(struct dice *d, const struct test_case *c, struct call *call, bool last)
+{
+    lend_all(c, call);
+    call->kind = CALL_WHO;
+    some_mode(d, c, call);
+    some_cell(d, call);
+    if (percent(d, 4))
+        some_other_groups(d, call);
+    if (percent(d, last ? 20 : 1)) {
+        some_damage(d, call);
+        if (one_in(d, 2)) /* far below, and the oldest word too */
+            call->damage_below = below(d, 400);
     }
     if (percent(d, 4))
+        spoil_length(d, call);
+    if (percent(d, 5))
+        some_pad_byte(d, call);
+    if (percent(d, 5))
         call->drop_used = one_in(d, 4) ? SIZE_MAX : between(d, 1, 20);
 }
 
@@ -1188,4 +1272,7 @@ void maker_make(struct maker *m, uint64_t number, struct test_case *c)
     c->call_count = (int)between(&d, 1, CASE_CALLS_MAX);
     for (int i = 0; i < c->call_count; i++)
         fill_call(&w, c, &c->call[i]);
+    uint32_t asks = between(&d, 2, CASE_ASKS_MAX);
+    for (uint32_t i = 0; i < asks; i++)
+        fill_ask(&d, c, &c->call[c->call_count++], i == asks - 1);
 }

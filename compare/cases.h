@@ -18,19 +18,27 @@ enum {
     CASE_JOURNAL_ROOM = CASE_JOURNAL_MAX + 1,
     CASE_LENT_EXTRA = 8, /* pad, vdp and reg are lent at most so much too long */
     CASE_CALLS_MAX = 12,
+    CASE_ASKS_MAX = 6, /* after these: who wrote a cell? */
     CASE_PATCHES_MAX = 65536,
     CASE_LABELS_MAX = 32
 };
 
-enum call_kind { CALL_STEP, CALL_RUN, CALL_BACK, CALL_VIEW };
+enum call_kind { CALL_STEP, CALL_RUN, CALL_BACK, CALL_VIEW, CALL_WHO };
 
 /* One call, and what is changed on both sides before it. */
 struct call {
     enum call_kind kind;
     uint32_t n;   /* for a run */
-    int memory;   /* for a view */
+    int memory;   /* for a view, and who wrote a cell */
     size_t at;
     size_t len;
+
+    /* the cell of a kept word so far below the top is asked for, or one beside it, unless the journal is empty */
+    bool by_word;
+    bool by_store;   /* of the next store's word from there down */
+    size_t word_below; /* modulo their number */
+    int beside;      /* added to its address */
+    int memory_more; /* added to its memory */
 
     /* the lengths as lent */
     size_t image_len, pad_len, vdp_len, reg_len, journal_len;
@@ -66,7 +74,7 @@ struct test_case {
     size_t place; /* in a ring below the journal's length, or 0 */
     uint16_t pc;
     int call_count;
-    struct call call[CASE_CALLS_MAX];
+    struct call call[CASE_CALLS_MAX + CASE_ASKS_MAX];
 };
 
 struct patch {

@@ -27,11 +27,18 @@ struct outcome {
     peer_report report;
     size_t shown;
     size_t offset;
+    peer_wrote wrote;
+};
+
+/* A cell that is asked for: memory and address, as they are lent. */
+struct cell {
+    uint8_t memory;
+    uint16_t at;
 };
 
 struct counts {
-    uint64_t cases, calls, calls_of_kind[4];
-    uint64_t answers[256];      /* of every call but views */
+    uint64_t cases, calls, calls_of_kind[5];
+    uint64_t answers[256];      /* of every call but views and who wrote a cell */
     uint64_t step_answers[256]; /* of single steps */
     uint64_t tries, accepted;   /* steps, those of runs included */
     uint64_t opcode[256];       /* accepted */
@@ -51,6 +58,16 @@ struct counts {
     uint64_t no_room_lost;        /* of these, those that answered 10 */
     uint64_t backs_round;         /* steps taken back in a ring that had dropped some */
     uint64_t past_oldest;         /* step-backs there that found no word */
+
+    /* of who wrote a cell */
+    uint64_t who_answers[256];
+    uint64_t named, named_in[5];  /* by memory */
+    uint64_t named_older;         /* not the newest step */
+    uint64_t named_round;         /* in a ring that had dropped some */
+    uint64_t named_equal;         /* the byte before is the byte left */
+    uint64_t named_again;         /* that step stored there more than once */
+    uint64_t none_kept, none_empty, none_round;
+    uint64_t walked;              /* steps taken back to check all that */
 };
 
 /* What the calls hand on to one another. */
@@ -60,9 +77,9 @@ struct at {
     size_t place;
 };
 
-static const struct machine peer_machine = {"peer", peer_step, peer_run, peer_step_back, peer_view};
+static const struct machine peer_machine = {"peer", peer_step, peer_run, peer_step_back, peer_view, peer_who_wrote};
 
-static const char *const kind_name[] = {"step", "run", "step-back", "view"};
+static const char *const kind_name[] = {"step", "run", "step-back", "view", "who-wrote"};
 
 /* ---- lent parts ---- */
 
@@ -191,6 +208,40 @@ static size_t lent_place(const struct call *call, size_t place)
     return call->place_past ? call->journal_len + call->place_by : place;
 }
 
+/* The word by which a call names its cell: so far below the top, or the next store's word from there down. */
+static const uint32_t *naming_word(const struct side *s, const struct call *call, const struct at *at)
+{
+    const uint32_t *word = NULL;
+    size_t below = at->used == 0 ? 0 : call->word_below % at->used;
+
+    for (; call->by_word && below < at->used; below++) {
+        word = kept_word(s, call, at->place, at->used - 1 - below);
+        if (!call->by_store || *word >> 29 != 3)
+            break;
+    }
+    return word;
+}
+
+static struct cell lent_cell(const struct side *s, const struct call *call, const struct at *at)
+{
+    const uint32_t *word = naming_word(s, call, at);
+
+    if (!word)
+        return (struct cell){(uint8_t)call->memory, (uint16_t)call->at};
+    return (struct cell){(uint8_t)((int)(*word >> 29) + call->memory_more),
+                         (uint16_t)((int)(*word >> 8 & 0xFFFF) + call->beside)};
+}
+
+static peer_wrote ask_who(const struct side *s, const struct call *call, const struct at *at)
+{
+    struct cell cell = lent_cell(s, call, at);
+
+    return s->machine->who_wrote(part_bytes(&s->image), call->image_len, part_bytes(&s->pad), call->pad_len,
+                                 part_bytes(&s->vdp), call->vdp_len, part_bytes(&s->reg), call->reg_len,
+                                 journal_words(s), call->journal_len, lent_used(call, at->used), call->ring,
+                                 lent_place(call, at->place), call->writable, cell.memory, cell.at);
+}
+
 static struct outcome make_call(struct side *s, const struct call *call, const struct at *at)
 {
     const struct machine *m = s->machine;
@@ -199,9 +250,8 @@ static struct outcome make_call(struct side *s, const struct call *call, const s
     uint32_t *journal = journal_words(s);
     uint16_t pc = at->pc;
     size_t used = lent_used(call, at->used), place = lent_place(call, at->place);
-    struct outcome out;
+    struct outcome out = {.report = {.pc = pc, .used = used, .place = place}}; /* as it is, if a call only looks */
 
-    memset(&out, 0, sizeof out);
     switch (call->kind) {
     case CALL_STEP:
         out.report = m->step(image, call->image_len, pad, call->pad_len, vdp, call->vdp_len, reg,
@@ -220,11 +270,10 @@ static struct outcome make_call(struct side *s, const struct call *call, const s
         break;
     case CALL_VIEW:
         out.shown = m->view(call->pad_len, call->vdp_len, call->memory, call->at, call->len, &out.offset);
-        if (out.shown == 0)
-            out.offset = 0; /* an empty part has no place */
-        out.report.pc = pc;
-        out.report.used = used;
-        out.report.place = place;
+        out.offset = out.shown == 0 ? 0 : out.offset; /* an empty part has no place */
+        break;
+    case CALL_WHO:
+        out.wrote = ask_who(s, call, at);
         break;
     }
     return out;
@@ -236,6 +285,18 @@ static bool same_report(const peer_report *a, const peer_report *b)
 {
     return a->answer == b->answer && a->pc == b->pc && a->used == b->used && a->steps == b->steps &&
            a->stores == b->stores && a->address == b->address && a->place == b->place;
+}
+
+static bool same_wrote(const peer_wrote *a, const peer_wrote *b)
+{
+    return a->answer == b->answer && a->found == b->found && a->after == b->after && a->pc == b->pc &&
+           a->before == b->before && a->left == b->left;
+}
+
+static bool same_outcome(const struct outcome *a, const struct outcome *b)
+{
+    return same_report(&a->report, &b->report) && a->shown == b->shown && a->offset == b->offset &&
+           same_wrote(&a->wrote, &b->wrote);
 }
 
 static bool same_part(const struct part *a, const struct part *b)
@@ -261,6 +322,12 @@ static void print_outcome(const struct machine *m, const struct outcome *o)
            " address %04X place %zu shown %zu offset %zu\n",
            m->name, o->report.answer, o->report.pc, o->report.used, o->report.steps, o->report.stores,
            o->report.address, o->report.place, o->shown, o->offset);
+}
+
+static void print_wrote(const char *name, const peer_wrote *w)
+{
+    printf("# %s: answer %u found %" PRIu64 " after %" PRIu64 " pc %04" PRIX64, name, w->answer, w->found, w->after, w->pc);
+    printf(" before %02" PRIX64 " left %02" PRIX64 "\n", w->before, w->left);
 }
 
 static void print_part_difference(const char *name, const struct part *a, const struct part *b)
@@ -390,6 +457,10 @@ static void print_state_before(struct side *a, const struct test_case *c, int fa
     struct at at = replay(a, c, failing);
 
     print_call(&c->call[failing]);
+    if (c->call[failing].kind == CALL_WHO) {
+        struct cell cell = lent_cell(a, &c->call[failing], &at);
+        printf("# cell asked for: memory %u at %04X\n", cell.memory, cell.at);
+    }
     printf("# image length %zu, the program's is 32768, its journal is plain, and it has no writable group\n",
            c->image_len);
     print_journal(a, at.used, at.place);
@@ -409,6 +480,10 @@ static void print_difference(const struct maker *m, uint64_t number, struct side
            kind_name[c->call[failing].kind]);
     print_outcome(a->machine, x);
     print_outcome(b->machine, y);
+    if (c->call[failing].kind == CALL_WHO) {
+        print_wrote(a->machine->name, &x->wrote);
+        print_wrote(b->machine->name, &y->wrote);
+    }
     print_part_difference("image", &a->image, &b->image);
     print_part_difference("pad", &a->pad, &b->pad);
     print_part_difference("vdp", &a->vdp, &b->vdp);
@@ -419,6 +494,107 @@ static void print_difference(const struct maker *m, uint64_t number, struct side
     if (c->call[failing].kind == CALL_RUN)
         print_first_step(a, b, c, failing);
     print_state_before(a, c, failing);
+}
+
+/* ---- who wrote a cell, by walking back ---- */
+
+static void side_copy(struct side *to, const struct side *from)
+{
+    part_fill(&to->image, part_bytes(&from->image), from->image.len);
+    part_fill(&to->pad, part_bytes(&from->pad), from->pad.len);
+    part_fill(&to->vdp, part_bytes(&from->vdp), from->vdp.len);
+    part_fill(&to->reg, part_bytes(&from->reg), from->reg.len);
+    part_fill(&to->journal, part_bytes(&from->journal), from->journal.len);
+}
+
+/* The byte that stands in a cell; 0 where there is none. */
+static uint8_t byte_in(const struct side *s, struct cell cell)
+{
+    const struct part *const memory[] = {&s->pad, &s->vdp, &s->reg, NULL, &s->image};
+
+    if (cell.memory > 4 || cell.memory == 3 || cell.at >= memory[cell.memory]->len)
+        return 0;
+    return part_bytes(memory[cell.memory])[cell.at];
+}
+
+/* How many of the kept words from one on and below another are stores to a cell. */
+static uint64_t stores_to(const struct side *s, const struct call *call, size_t place, size_t from, size_t to,
+                          struct cell cell)
+{
+    uint64_t count = 0;
+
+    for (size_t i = from; i < to; i++) {
+        uint32_t word = *kept_word(s, call, place, i);
+        count += word >> 29 != 3 && word >> 29 == cell.memory && (word >> 8 & 0x1FFFFF) == cell.at;
+    }
+    return count;
+}
+
+/* What is found by stepping back to the oldest kept step, one at a time, on copies. */
+struct walk {
+    peer_wrote wrote;
+    uint64_t stores; /* that the named step made to the cell */
+    uint64_t steps;
+};
+
+static struct walk walk_back(struct side *w, const struct side *s, const struct call *call, const struct at *at)
+{
+    struct cell cell = lent_cell(s, call, at);
+    size_t used = lent_used(call, at->used), place = lent_place(call, at->place);
+    struct walk walk = {{0, 0, 0, 0, 0, 0}, 0, 0};
+
+    side_copy(w, s);
+    for (;; walk.steps++) {
+        uint8_t stood = byte_in(w, cell);
+        peer_report r = peer_step_back(part_bytes(&w->image), call->image_len, part_bytes(&w->pad), call->pad_len,
+                                       part_bytes(&w->vdp), call->vdp_len, part_bytes(&w->reg), call->reg_len,
+                                       journal_words(w), call->journal_len, 0, used, call->ring, place,
+                                       call->writable);
+        if (r.answer == 12 && used == 0) /* past the oldest step */
+            return walk;
+        if (r.answer != 0) /* none is named, whatever was found above the word at fault */
+            return (struct walk){{r.answer, 0, 0, 0, 0, 0}, 0, walk.steps};
+        if (!walk.wrote.found && (walk.stores = stores_to(s, call, place, r.used, used, cell)) > 0)
+            walk.wrote = (peer_wrote){0, 1, walk.steps, r.pc, byte_in(w, cell), stood};
+        used = r.used;
+    }
+}
+
+static void count_who(struct counts *n, const struct side *s, const struct call *call, const struct at *at,
+                      const struct walk *walk, uint64_t dropped)
+{
+    const peer_wrote *w = &walk->wrote;
+
+    n->who_answers[w->answer]++;
+    n->walked += walk->steps;
+    if (w->answer != 0)
+        return;
+    if (!w->found) {
+        n->none_kept++;
+        n->none_empty += at->used == 0;
+        n->none_round += call->ring && dropped != 0 && at->used != 0;
+        return;
+    }
+    n->named++;
+    n->named_in[lent_cell(s, call, at).memory]++;
+    n->named_older += w->after != 0;
+    n->named_round += call->ring && dropped != 0;
+    n->named_equal += w->before == w->left;
+    n->named_again += walk->stores > 1;
+}
+
+/* The reason given must be the one that walking back shows. */
+static bool check_who(struct counts *n, struct side *w, const struct side *s, const struct call *call,
+                      const struct at *at, const struct outcome *o, uint64_t dropped)
+{
+    struct walk walk = walk_back(w, s, call, at);
+
+    if (!same_wrote(&walk.wrote, &o->wrote)) {
+        print_wrote("walking back", &walk.wrote);
+        return false;
+    }
+    count_who(n, s, call, at, &walk, dropped);
+    return true;
 }
 
 /* ---- counting ---- */
@@ -504,6 +680,8 @@ static void count_call(struct counts *n, const struct side *s, const struct test
 {
     n->calls++;
     n->calls_of_kind[call->kind]++;
+    if (call->kind == CALL_WHO)
+        return; /* counted where it is checked */
     if (call->kind == CALL_VIEW) {
         *(o->shown == 0 ? &n->empty_views : &n->shown_views) += 1;
         return;
@@ -546,13 +724,30 @@ static void print_ring_counts(const struct counts *n)
            n->lost, n->no_room_lost, n->backs_round, n->past_oldest);
 }
 
+static void print_who_counts(const struct counts *n)
+{
+    printf("\nwho wrote a cell: %" PRIu64 " asked, answers", n->calls_of_kind[CALL_WHO]);
+    for (int i = 0; i < 256; i++)
+        if (n->who_answers[i])
+            printf(" %d:%" PRIu64, i, n->who_answers[i]);
+    printf("; checked by %" PRIu64 " steps back\n", n->walked);
+    printf("who wrote a cell: %" PRIu64 " named (CPU %" PRIu64 ", VDP %" PRIu64 ", register %" PRIu64 ", GROM %" PRIu64
+           "), %" PRIu64 " of them not the newest step, %" PRIu64 " in a ring after some were dropped, %" PRIu64
+           " with an equal byte, %" PRIu64 " with more than one store there\n",
+           n->named, n->named_in[0], n->named_in[1], n->named_in[2], n->named_in[4], n->named_older, n->named_round,
+           n->named_equal, n->named_again);
+    printf("who wrote a cell: %" PRIu64 " times none kept, %" PRIu64 " in an empty journal, %" PRIu64
+           " in a ring after some were dropped",
+           n->none_kept, n->none_empty, n->none_round);
+}
+
 static void print_counts(const struct counts *n)
 {
     int never = 0, wrong = 0;
     printf("cases %" PRIu64 ", calls %" PRIu64 " (step %" PRIu64 ", run %" PRIu64 ", step-back %" PRIu64
-           ", view %" PRIu64 ": %" PRIu64 " shown, %" PRIu64 " empty)\n",
+           ", view %" PRIu64 ": %" PRIu64 " shown, %" PRIu64 " empty, who wrote a cell %" PRIu64 ")\n",
            n->cases, n->calls, n->calls_of_kind[CALL_STEP], n->calls_of_kind[CALL_RUN], n->calls_of_kind[CALL_BACK],
-           n->calls_of_kind[CALL_VIEW], n->shown_views, n->empty_views);
+           n->calls_of_kind[CALL_VIEW], n->shown_views, n->empty_views, n->calls_of_kind[CALL_WHO]);
     printf("steps tried %" PRIu64 ", accepted %" PRIu64 " (%.1f%%); single steps accepted %.1f%%\n", n->tries,
            n->accepted, n->tries ? 100.0 * (double)n->accepted / (double)n->tries : 0,
            n->calls_of_kind[CALL_STEP] ? 100.0 * (double)n->step_answers[0] / (double)n->calls_of_kind[CALL_STEP] : 0);
@@ -574,12 +769,14 @@ static void print_counts(const struct counts *n)
         if (n->grom_refusals[i])
             printf(" %d:%" PRIu64, i, n->grom_refusals[i]);
     print_ring_counts(n);
+    print_who_counts(n);
     printf("\nopcodes never accepted: %d\nopcodes accepted that must not be: %d\n", never, wrong);
 }
 
 /* ---- the comparison ---- */
 
-static bool compare_case(const struct maker *m, uint64_t number, struct side *a, struct side *b,
+/* w: a side to walk back on */
+static bool compare_case(const struct maker *m, uint64_t number, struct side *a, struct side *b, struct side *w,
                          const struct test_case *c, struct counts *n)
 {
     struct at at = {c->pc, c->used, c->place};
@@ -594,8 +791,8 @@ static bool compare_case(const struct maker *m, uint64_t number, struct side *a,
         edit_side(b, call, &at);
         struct outcome x = make_call(a, call, &at);
         struct outcome y = make_call(b, call, &at);
-        if (!same_report(&x.report, &y.report) || x.shown != y.shown || x.offset != y.offset ||
-            !same_sides(a, b) || !guarded(a) || !guarded(b)) {
+        if (!same_outcome(&x, &y) || !same_sides(a, b) || !guarded(a) || !guarded(b) ||
+            (call->kind == CALL_WHO && !check_who(n, w, a, call, &at, &x, dropped))) {
             print_difference(m, number, a, b, c, i, &x, &y);
             return false;
         }
@@ -611,22 +808,24 @@ int main(int argc, char **argv)
     static struct maker maker;
     static struct test_case c;
     static struct counts counts;
-    struct side a, b;
+    struct side a, b, walker;
     uint64_t cases = argc > 1 ? strtoull(argv[1], NULL, 0) : 100000;
     uint64_t seed = argc > 2 ? strtoull(argv[2], NULL, 0) : 1;
     uint64_t first = argc > 3 ? strtoull(argv[3], NULL, 0) : 0;
 
     side_make(&a, &peer_machine);
     side_make(&b, &other_machine);
+    side_make(&walker, &peer_machine);
     maker_start(&maker, seed);
     bool same = true;
     for (uint64_t i = first; same && i - first < cases; i++) {
         maker_make(&maker, i, &c);
-        same = compare_case(&maker, i, &a, &b, &c, &counts);
+        same = compare_case(&maker, i, &a, &b, &walker, &c, &counts);
     }
     if (same)
         print_counts(&counts);
     side_free(&a);
     side_free(&b);
+    side_free(&walker);
     return same ? 0 : 1;
 }

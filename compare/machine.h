@@ -1,4 +1,4 @@
-/* A machine under comparison: the four calls of peer.h as function pointers. */
+/* A machine under comparison: the five calls of peer.h as function pointers. */
 #ifndef MACHINE_H
 #define MACHINE_H
 
@@ -19,6 +19,11 @@ struct machine {
                              uint32_t *journal, size_t journal_len,
                              uint16_t pc, size_t used, uint8_t ring, size_t place, uint8_t writable);
     size_t (*view)(size_t pad_len, size_t vdp_len, int memory, size_t at, size_t len, size_t *offset);
+    peer_wrote (*who_wrote)(const uint8_t *image, size_t image_len, const uint8_t *pad, size_t pad_len,
+                            const uint8_t *vdp, size_t vdp_len, const uint8_t *reg, size_t reg_len,
+                            const uint32_t *journal, size_t journal_len,
+                            size_t used, uint8_t ring, size_t place, uint8_t writable,
+                            uint8_t memory, uint16_t at);
 };
 
 /* Given by the adapter of the other implementation. */

@@ -12,9 +12,9 @@ static peer_report report_of(uint8_t answer, const uint64_t out[ARGOLYTHE_OUTS])
 }
 
 /* Numbers that no call may leave standing, so that one that says nothing is seen. */
-static void spoil(uint64_t out[ARGOLYTHE_OUTS])
+static void spoil(uint64_t *out, int count)
 {
-    for (int i = 0; i < ARGOLYTHE_OUTS; i++)
+    for (int i = 0; i < count; i++)
         out[i] = 0xA5A5A5A5A5A5A5A5u;
 }
 
@@ -25,7 +25,7 @@ static peer_report step(uint8_t *image, size_t image_len, uint8_t *pad, size_t p
                         uint16_t pc, size_t used, uint8_t ring, size_t place, uint8_t writable)
 {
     uint64_t out[ARGOLYTHE_OUTS];
-    spoil(out);
+    spoil(out, ARGOLYTHE_OUTS);
     uint8_t answer = argolythe_step(image, image_len, pad, pad_len, vdp, vdp_len, reg, reg_len,
                                     journal, journal_len, pc, used, ring, place, writable, out);
     return report_of(answer, out);
@@ -38,7 +38,7 @@ static peer_report run(uint8_t *image, size_t image_len, uint8_t *pad, size_t pa
                        uint16_t pc, size_t used, uint8_t ring, size_t place, uint8_t writable, uint32_t n)
 {
     uint64_t out[ARGOLYTHE_OUTS];
-    spoil(out);
+    spoil(out, ARGOLYTHE_OUTS);
     uint8_t answer = argolythe_run(image, image_len, pad, pad_len, vdp, vdp_len, reg, reg_len,
                                    journal, journal_len, pc, used, ring, place, writable, n, out);
     return report_of(answer, out);
@@ -51,7 +51,7 @@ static peer_report step_back(uint8_t *image, size_t image_len, uint8_t *pad, siz
                              uint16_t pc, size_t used, uint8_t ring, size_t place, uint8_t writable)
 {
     uint64_t out[ARGOLYTHE_OUTS];
-    spoil(out);
+    spoil(out, ARGOLYTHE_OUTS);
     uint8_t answer = argolythe_step_back(image, image_len, pad, pad_len, vdp, vdp_len, reg, reg_len,
                                          journal, journal_len, pc, used, ring, place, writable, out);
     out[ARGOLYTHE_OUT_STEPS] -= answer == ARGOLYTHE_DONE ? 1 : 0;
@@ -66,4 +66,18 @@ static size_t view(size_t pad_len, size_t vdp_len, int memory, size_t at, size_t
     return argolythe_view(pad, pad_len, vdp, vdp_len, (uint8_t)memory, at, len, offset);
 }
 
-const struct machine other_machine = {"argolythe", step, run, step_back, view};
+/* Who wrote a cell, as the harness asks for it. */
+static peer_wrote who_wrote(const uint8_t *image, size_t image_len, const uint8_t *pad, size_t pad_len,
+                            const uint8_t *vdp, size_t vdp_len, const uint8_t *reg, size_t reg_len,
+                            const uint32_t *journal, size_t journal_len,
+                            size_t used, uint8_t ring, size_t place, uint8_t writable, uint8_t memory, uint16_t at)
+{
+    uint64_t out[ARGOLYTHE_WHO_OUTS];
+    spoil(out, ARGOLYTHE_WHO_OUTS);
+    uint8_t answer = argolythe_who_wrote(image, image_len, pad, pad_len, vdp, vdp_len, reg, reg_len,
+                                         journal, journal_len, used, ring, place, writable, memory, at, out);
+    return (peer_wrote){answer, out[ARGOLYTHE_WHO_FOUND], out[ARGOLYTHE_WHO_AFTER], out[ARGOLYTHE_WHO_PC],
+                        out[ARGOLYTHE_WHO_BEFORE], out[ARGOLYTHE_WHO_LEFT]};
+}
+
+const struct machine other_machine = {"argolythe", step, run, step_back, view, who_wrote};

@@ -1355,3 +1355,73 @@ size_t peer_view(size_t pad_len, size_t vdp_len, int memory,
     *offset = at;
     return len;
 }
+
+/* ---- who wrote a cell: 02, item 7 ---- */
+
+/* The kept words of a journal that is only read, the oldest first. */
+struct kept {
+    const uint32_t *journal;
+    size_t len;
+    size_t place;
+    size_t used;
+};
+
+static uint32_t kept_word(const struct kept *k, size_t i)
+{
+    size_t before_end = k->len - k->place;
+    return k->journal[i < before_end ? k->place + i : i - before_end];
+}
+
+/* "12 if any record below the used count is unsound by step-back's rule or a word has no mark below it" */
+static bool all_sound(const struct kept *k, size_t image_len, uint8_t writable)
+{
+    for (size_t i = 0; i < k->used; i++)
+        if (!sound(kept_word(k, i), image_len, writable))
+            return false;
+    return k->used == 0 || is_mark(kept_word(k, 0));
+}
+
+/* "name the newest kept step that stored to it": from the top down, and from that store on to its own step's mark */
+static peer_wrote newest_store(const struct kept *k, uint32_t cell)
+{
+    peer_wrote w = {DONE, 0, 0, 0, 0, 0};
+
+    for (size_t i = k->used; i > 0; i--) {
+        uint32_t word = kept_word(k, i - 1);
+        if (is_mark(word) && w.found) {
+            w.pc = word & 0xFFFF;
+            return w;
+        }
+        if (is_mark(word)) {
+            w.after++; /* "by how many kept steps came after" */
+        } else if (word >> 8 == cell) { /* "A store of an equal byte counts." */
+            w.found = 1;
+            w.before = word & 0xFF; /* before the step, so the lowest word's */
+        }
+    }
+    return (peer_wrote){DONE, 0, 0, 0, 0, 0}; /* "none kept" */
+}
+
+peer_wrote peer_who_wrote(const uint8_t *image, size_t image_len,
+                          const uint8_t *pad, size_t pad_len,
+                          const uint8_t *vdp, size_t vdp_len,
+                          const uint8_t *reg, size_t reg_len,
+                          const uint32_t *journal, size_t journal_len,
+                          size_t used, uint8_t ring, size_t place, uint8_t writable,
+                          uint8_t memory, uint16_t at)
+{
+    const uint8_t *const memories[] = {
+        [KIND_CPU] = pad, [KIND_VDP] = vdp, [KIND_REG] = reg, [KIND_MARK] = NULL, [KIND_GROM] = image};
+
+    if (bad_lengths(image_len, pad_len, vdp_len, reg_len, journal_len, used) || bad_place(journal_len, ring, place))
+        return (peer_wrote){BAD_LENGTH, 0, 0, 0, 0, 0};
+
+    struct kept kept = {journal, journal_len, ring ? place : 0, used};
+    if (!all_sound(&kept, image_len, writable))
+        return (peer_wrote){NO_RECORD, 0, 0, 0, 0, 0};
+    /* As words have it, above their byte.  A cell that isn't there has no sound word, so none is found. */
+    peer_wrote w = newest_store(&kept, (uint32_t)memory << (KIND_SHIFT - 8) | at);
+    if (w.found)
+        w.left = memories[memory][at]; /* no later kept step stored there */
+    return w;
+}

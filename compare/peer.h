@@ -52,4 +52,22 @@ peer_report peer_step_back(uint8_t *image, size_t image_len,
 size_t peer_view(size_t pad_len, size_t vdp_len, int memory,
                  size_t at, size_t len, size_t *offset);
 
+/* What peer_who_wrote says: its answer, and, if a kept step stored to the
+   cell, 1, how many kept steps came after it, its pc, the byte before it and
+   the byte that it left; else five times 0. */
+typedef struct {
+    uint8_t answer;
+    uint64_t found, after, pc, before, left;
+} peer_wrote;
+
+/* Who wrote this cell? (02, item 7)  memory: 0 CPU, 1 VDP, 2 register,
+   4 GROM; any other has no cell. */
+peer_wrote peer_who_wrote(const uint8_t *image, size_t image_len,
+                          const uint8_t *pad, size_t pad_len,
+                          const uint8_t *vdp, size_t vdp_len,
+                          const uint8_t *reg, size_t reg_len,
+                          const uint32_t *journal, size_t journal_len,
+                          size_t used, uint8_t ring, size_t place, uint8_t writable,
+                          uint8_t memory, uint16_t at);
+
 #endif

@@ -1,5 +1,6 @@
 /* Runs four instructions to their end, looks at what they left, and walks back to the start; then a card
- * that writes itself, a loop that goes round a small journal, and the image written as a dump. */
+ * that writes itself, a loop that goes round a small journal, the image written as a dump, and a cartridge
+ * that leaves a wrong byte, with the step that wrote it. */
 #include "argolythe.h"
 #include <stdio.h>
 #include <string.h>
@@ -17,6 +18,17 @@ static uint8_t image[ARGOLYTHE_GROUP] = {
     [0x30] =
     0x90, 0x12,             /* 0030  INC  pad >12 */
     0x05, 0x00, 0x30,       /* 0032  B    >0030 */
+};
+/* Another cartridge, examples/overrun.md: the loop clears one byte too many. */
+static const uint8_t overrun[] = {
+    0xBE, 0x08, 0x03,       /* 0000  ST   3 to pad >08, the lives */
+    0x87, 0x10,             /* 0003  DCLR pad word >10, the index */
+    0x86, 0xC0, 0x00, 0x10, /* 0005  CLR  pad >00 plus the index: a table of 8 bytes */
+    0x91, 0x10,             /* 0009  DINC pad word >10 */
+    0xD7, 0x10, 0x00, 0x09, /* 000B  DCEQ 9 with pad word >10; 8 would be right */
+    0x40, 0x05,             /* 000F  BR   >0005 */
+    0x04, 0x06,             /* 0011  BACK 6 */
+    0x0B,                   /* 0013  EXIT */
 };
 static uint8_t pad[ARGOLYTHE_PAD];
 static uint8_t vdp[ARGOLYTHE_VDP];
@@ -72,6 +84,13 @@ static uint8_t step_back(uint64_t *out)
                                          writable, out);
     keep(out);
     return answer;
+}
+
+static uint8_t who_wrote(uint8_t memory, uint16_t at, uint64_t *who)
+{
+    return argolythe_who_wrote(image, sizeof image, pad, sizeof pad, vdp, sizeof vdp,
+                               reg, sizeof reg, journal, journal_len, used, ring, place,
+                               writable, memory, at, who);
 }
 
 /* The byte at an address, or -1 where none can be seen. */
@@ -225,6 +244,57 @@ static void dump_and_back(void)
     expect(answer == ARGOLYTHE_OUT_SHORT && count == 0, "no room for the last line feed");
 }
 
+/* The other cartridge in the image, from its start, in a ring of 64 words. */
+static void insert_overrun(void)
+{
+    memset(image, 0, sizeof image);
+    memset(pad, 0, sizeof pad);
+    memcpy(image, overrun, sizeof overrun);
+    memcpy(pad, "ABCDEFGH", 8); /* the table */
+    writable = 0;
+    pc = 0;
+    used = 0;
+    place = 0;
+    ring = 1;
+}
+
+static void a_wrong_byte(void)
+{
+    uint64_t out[ARGOLYTHE_OUTS], who[ARGOLYTHE_WHO_OUTS];
+    insert_overrun();
+    uint8_t ran = run(100, out);
+    uint8_t answer = who_wrote(ARGOLYTHE_CELL_CPU, 0x08, who);
+    printf("After another cartridge pad >08 holds %02X, and should hold 03. Who wrote it answers %d:\n",
+           (unsigned)see(ARGOLYTHE_SEE_CPU, 0x08), answer);
+    printf("the step at %04X, with %d steps after it; %02X before, %02X left.\n", (unsigned)who[ARGOLYTHE_WHO_PC],
+           (int)who[ARGOLYTHE_WHO_AFTER], (unsigned)who[ARGOLYTHE_WHO_BEFORE], (unsigned)who[ARGOLYTHE_WHO_LEFT]);
+    expect(ran == ARGOLYTHE_ENDED && out[ARGOLYTHE_OUT_STEPS] == 39 && pc == 0x0013, "39 steps to EXIT");
+    expect(answer == ARGOLYTHE_DONE && who[ARGOLYTHE_WHO_FOUND] == 1, "a step is named");
+    expect(who[ARGOLYTHE_WHO_PC] == 0x0005 && who[ARGOLYTHE_WHO_AFTER] == 4, "the CLR of the ninth turn");
+    expect(who[ARGOLYTHE_WHO_BEFORE] == 3 && who[ARGOLYTHE_WHO_LEFT] == 0, "3 to 0");
+
+    answer = who_wrote(ARGOLYTHE_CELL_CPU, 0x00, who);
+    printf("For pad >00 it answers %d and finds %d: the step that cleared it is no longer kept.\n", answer,
+           (int)who[ARGOLYTHE_WHO_FOUND]);
+    expect(answer == ARGOLYTHE_DONE && who[ARGOLYTHE_WHO_FOUND] == 0, "none kept");
+    answer = who_wrote(ARGOLYTHE_CELL_REG, 7, who);
+    expect(answer == ARGOLYTHE_DONE && who[ARGOLYTHE_WHO_FOUND] == 1 && who[ARGOLYTHE_WHO_AFTER] == 0 &&
+           who[ARGOLYTHE_WHO_PC] == 0x0011 && who[ARGOLYTHE_WHO_LEFT] == 6, "BACK, the newest step");
+}
+
+/* As many steps back as came after the culprit, and one more. */
+static void before_the_culprit(void)
+{
+    uint64_t out[ARGOLYTHE_OUTS];
+    for (int i = 0; i < 5; i += 1)
+        expect(step_back(out) == ARGOLYTHE_DONE, "a kept step");
+    printf("Five steps back: pc is %04X, pad >08 holds %02X, and the index is %02X%02X, one past the table.\n", pc,
+           (unsigned)see(ARGOLYTHE_SEE_CPU, 0x08), (unsigned)see(ARGOLYTHE_SEE_CPU, 0x10),
+           (unsigned)see(ARGOLYTHE_SEE_CPU, 0x11));
+    expect(pc == 0x0005 && see(ARGOLYTHE_SEE_CPU, 0x08) == 3 && see(ARGOLYTHE_SEE_CPU, 0x11) == 8,
+           "the state before the CLR");
+}
+
 int main(void)
 {
     to_the_end();
@@ -235,6 +305,8 @@ int main(void)
     a_card_that_writes_itself();
     a_loop_in_a_ring();
     dump_and_back();
+    a_wrong_byte();
+    before_the_culprit();
     printf(wrong ? "Something was not as expected.\n" : "All as expected.\n");
     return wrong ? 1 : 0;
 }

@@ -1,4 +1,4 @@
-// The same library from Rust: a slice is a pointer and a length. Two steps, the second of which writes the card, and two back.
+// The same library from Rust: a slice is a pointer and a length. Two steps, the second of which writes the card, who wrote there, and two back.
 extern "C" {
     #[rustfmt::skip]
     fn argolythe_step(
@@ -13,6 +13,13 @@ extern "C" {
         vdp: *mut u8, vdp_len: usize, reg: *mut u8, reg_len: usize,
         journal: *mut u32, journal_len: usize, pc: u16, used: usize,
         ring: u8, place: usize, writable: u8, out: *mut u64,
+    ) -> u8;
+    #[rustfmt::skip]
+    fn argolythe_who_wrote(
+        image: *const u8, image_len: usize, pad: *const u8, pad_len: usize,
+        vdp: *const u8, vdp_len: usize, reg: *const u8, reg_len: usize,
+        journal: *const u32, journal_len: usize, used: usize, ring: u8, place: usize,
+        writable: u8, memory: u8, at: u16, out: *mut u64,
     ) -> u8;
 }
 
@@ -68,6 +75,22 @@ impl Machine {
         self.keep(out);
         answer
     }
+
+    // The answer, then found, after, pc, before and left. A memory of 4 is GROM.
+    fn who_wrote(&self, memory: u8, at: u16) -> (u8, [u64; 5]) {
+        let mut out = [0; 5];
+        // Each pointer goes with its own length; all but the last are only read.
+        #[rustfmt::skip]
+        let answer = unsafe {
+            argolythe_who_wrote(
+                self.image.as_ptr(), self.image.len(), self.pad.as_ptr(), self.pad.len(),
+                self.vdp.as_ptr(), self.vdp.len(), self.reg.as_ptr(), self.reg.len(),
+                self.journal.as_ptr(), self.journal.len(), self.used, self.ring, self.place,
+                self.writable, memory, at, out.as_mut_ptr(),
+            )
+        };
+        (answer, out)
+    }
 }
 
 fn main() {
@@ -92,6 +115,9 @@ fn main() {
     let moved = m.step();
     println!("The next answers {moved}: pc is {:04X}, GROM >0080 holds {:02X}.", m.pc, m.image[0x80]);
     assert!(moved == 0 && m.pc == 9 && m.image[0x80] == 0x2A && m.used == 8);
+    let (answer, [found, after, pc, before, left]) = m.who_wrote(4, 0x80);
+    println!("Who wrote GROM >0080 answers {answer}: the step at {pc:04X}, with {after} after it; {before:02X} before, {left:02X} left.");
+    assert!(answer == 0 && found == 1 && after == 0 && pc == 3 && before == 0 && left == 0x2A);
     let unmoved = m.step_back();
     println!("A step back answers {unmoved}: pc is {:04X}, GROM >0080 holds {:02X}.", m.pc, m.image[0x80]);
     assert!(unmoved == 0 && m.pc == 3 && m.image[0x80] == 0 && m.used == 2);

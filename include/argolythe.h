@@ -1,4 +1,4 @@
-/* Argolythe for C11 and C++: steps, runs, steps back, the viewer, and dumps.
+/* Argolythe for C11 and C++: steps, runs, steps back, the viewer, who wrote a cell, and dumps.
  *
  * Link `libexport.a`, which `rt staticlib export` writes to target/staticlib/, for x86-64 Linux.
  *
@@ -65,7 +65,7 @@ enum argolythe_answer {
     ARGOLYTHE_FORMAT_TOO_LONG = 8, /* a 16,385th format code in one FMT */
     ARGOLYTHE_NO_ROOM = 10,        /* no journal word left; in a ring: one step needs more than all of it */
     ARGOLYTHE_WRONG_LENGTH = 11,   /* a lent part has a wrong length, or used or a ring's place is past the journal */
-    ARGOLYTHE_NO_RECORD = 12,      /* step_back finds no sound record */
+    ARGOLYTHE_NO_RECORD = 12,      /* step_back finds no sound record; who_wrote, that not every record is sound */
     ARGOLYTHE_OFF_REGISTERS = 13,  /* VDP register above 7 */
     ARGOLYTHE_BAD_RECORD = 20,     /* a dump: form, sum, type, address beyond the image, or more after the end */
     ARGOLYTHE_NAMED_TWICE = 21,    /* a dump: address named twice */
@@ -154,6 +154,41 @@ size_t argolythe_view(const uint8_t *pad, size_t pad_len,
                       const uint8_t *vdp, size_t vdp_len,
                       uint8_t memory, size_t at, size_t len,
                       size_t *offset);
+
+/* ---- who wrote a cell */
+
+/* Memories, as the journal's words number them. Any other has no cell. */
+enum argolythe_cell {
+    ARGOLYTHE_CELL_CPU = 0,  /* pad >00 to >DF */
+    ARGOLYTHE_CELL_VDP = 1,  /* VDP RAM >0000 to >3FFF */
+    ARGOLYTHE_CELL_REG = 2,  /* VDP registers 0 to 7 */
+    ARGOLYTHE_CELL_GROM = 4  /* the image's groups that are named writable */
+};
+
+/* What comes out: five numbers, all 0 unless a step is named. */
+enum argolythe_who {
+    ARGOLYTHE_WHO_FOUND = 0,  /* 1 if a kept step stored to the cell */
+    ARGOLYTHE_WHO_AFTER = 1,  /* how many kept steps came after it: 0 is the newest */
+    ARGOLYTHE_WHO_PC = 2,     /* where its instruction stood */
+    ARGOLYTHE_WHO_BEFORE = 3, /* the byte in the cell before that step */
+    ARGOLYTHE_WHO_LEFT = 4,   /* the byte that the step left */
+    ARGOLYTHE_WHO_OUTS = 5
+};
+
+/* The newest kept step that stored to a cell: 0, 11 or 12. A store of an equal byte counts. Answer 0 with nothing
+ * found says that no step in the journal stored there; so it is for an empty journal, and for a cell out of
+ * reach. 12 is answered, before anything is named, unless every word in use is sound and the oldest is
+ * a step's first, which holds of all that steps and steps back leave. WHO_AFTER steps back lead to the state that
+ * the named step left, one more to the state before it. WHO_LEFT is the byte that stands in the cell
+ * now: the step's, if nobody but steps wrote there since. The call changes nothing. */
+uint8_t argolythe_who_wrote(const uint8_t *image, size_t image_len,
+                            const uint8_t *pad, size_t pad_len,
+                            const uint8_t *vdp, size_t vdp_len,
+                            const uint8_t *reg, size_t reg_len,
+                            const uint32_t *journal, size_t journal_len,
+                            size_t used, uint8_t ring, size_t place, uint8_t writable,
+                            uint8_t memory, uint16_t at,
+                            uint64_t out[ARGOLYTHE_WHO_OUTS]);
 
 /* ---- dumps in Intel HEX (crates/export/src/dump.rt)
  *

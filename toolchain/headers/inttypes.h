@@ -4,4 +4,5 @@
 #define PRIu32 "u"
 #define PRIX32 "X"
 #define PRIu64 "lu"
+#define PRIX64 "lX"
 #endif

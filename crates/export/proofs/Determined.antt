@@ -11,7 +11,9 @@ use Rattle.rules.specs.Calls.{Report}
 use Rattle.ring.proofs.Turned.{turned-back}
 use Rattle.bench.specs.Meaning.{Returned, returned, Tells}
 use Rattle.bench.proofs.Replies.{returnedOf}
+use Rattle.culprit.specs.Culprit.{Wrote}
 use Rattle.export.specs.Meaning.{Numbers, heard, Shows}
+use Rattle.export.specs.Who.{numbersOf}
 
 -- `out` is an array of six
 six : (l : List ℕ) → length l ≡ 6 → getD l 0 0 ∷ getD l 1 0 ∷ getD l 2 0 ∷ getD l 3 0 ∷ getD l 4 0 ∷ getD l 5 0 ∷ [] ≡ l
@@ -56,3 +58,7 @@ heard-determined ring w {x = x} {y = y} e k h l = sym (read-heard ring w x e) �
 -- the viewer
 pub shows-determined : {m : ℕ} {p v : List ℕ} {at len o n o₂ n₂ : ℕ} → Shows m p v at len o n → Shows m p v at len o₂ n₂ → o ∷ n ∷ [] ≡ o₂ ∷ n₂ ∷ []
 shows-determined e k = e .place ∙ sym (k .place)
+
+-- who wrote a cell
+pub who-determined : (w : Wrote) {x y : Numbers} → x ≡ numbersOf w → y ≡ numbersOf w → x ≡ y
+who-determined w e k = e ∙ sym k

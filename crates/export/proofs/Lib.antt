@@ -1,4 +1,5 @@
 mod Chosen
 mod Numbers
 mod Shown
+pub mod Asked
 mod Determined

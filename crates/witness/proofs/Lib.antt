@@ -1,3 +1,4 @@
 mod Borne
 mod Counted
 mod Heard
+mod Blame

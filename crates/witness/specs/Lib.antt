@@ -1,3 +1,4 @@
 pub mod Demanded
 pub mod Dumped
 pub mod Hosted
+pub mod Blamed

@@ -2,6 +2,7 @@
 ghost use Rattle.machine.specs.Meaning.{_&_, Groups, Image, Journal, Pad, Regs, Vram};
 ghost use Rattle.witness.specs.Demanded.{Step, Back, Run};
 ghost use Rattle.witness.specs.Hosted.{RepliesIn, ReportsIn, Views};
+ghost use Rattle.witness.specs.Blamed.{seen, BlamesIn};
 
 // A step meets demand 1 or demand 2.
 pub fn step(
@@ -110,4 +111,37 @@ pub fn view<'a>(
     ensures { λ r. ⌜ Views memory pad vdp at len offset r ⌝ }
 {
     export::argolythe_view(pad, vdp, memory, at, len, offset)
+}
+
+// Who wrote a cell: the numbers are those of the true reason.
+pub fn who_wrote(
+    image: &[u8],
+    pad: &[u8],
+    vdp: &[u8],
+    reg: &[u8],
+    journal: &[u32],
+    used: usize,
+    ring: u8,
+    place: usize,
+    writable: u8,
+    memory: u8,
+    at: u16,
+    out: &mut [u64; 5],
+) -> u8
+    ensures { λ r. ⌜ BlamesIn memory at (seen image pad vdp reg journal) used ring place writable r out ⌝ }
+{
+    export::who::argolythe_who_wrote(
+        image,
+        pad,
+        vdp,
+        reg,
+        journal,
+        used,
+        ring,
+        place,
+        writable,
+        memory,
+        at,
+        out,
+    )
 }

@@ -2,6 +2,7 @@
 // Nothing is known here of a call but its contract, so one that says less breaks this crate.
 pub mod dumps;
 pub mod hosts;
+pub mod who;
 
 use bench::at::At;
 use bench::runs::Report;

@@ -1,0 +1,5 @@
+pub mod Facts
+pub mod Trails
+pub mod Whole
+pub mod True
+pub mod Called

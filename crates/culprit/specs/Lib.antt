@@ -1,0 +1,2 @@
+pub mod Culprit
+pub mod Meaning
