@@ -1228,18 +1228,12 @@ static bool bad_lengths(size_t image_len, size_t pad_len, size_t vdp_len, size_t
            journal_len > JOURNAL_MAX || used > journal_len;
 }
 
-peer_report peer_run(uint8_t *image, size_t image_len,
-                     uint8_t *pad, size_t pad_len,
-                     uint8_t *vdp, size_t vdp_len,
-                     uint8_t *reg, size_t reg_len,
-                     uint32_t *journal, size_t journal_len,
-                     uint16_t pc, size_t used, uint8_t ring, size_t place, uint8_t writable, uint32_t n)
+/* The machine that a call is lent, with nothing refused. */
+static struct bench lent(uint8_t *image, size_t image_len, uint8_t *pad, uint8_t *vdp, uint8_t *reg,
+                         uint32_t *journal, size_t journal_len,
+                         uint16_t pc, size_t used, uint8_t ring, size_t place, uint8_t writable)
 {
-    /* "Answer 11 is tested first and touches nothing." */
-    if (bad_lengths(image_len, pad_len, vdp_len, reg_len, journal_len, used) || bad_place(journal_len, ring, place))
-        return (peer_report){BAD_LENGTH, pc, used, 0, 0, 0, place};
-
-    struct bench b = {
+    return (struct bench){
         .image = image,
         .pad = pad,
         .vdp = vdp,
@@ -1255,6 +1249,20 @@ peer_report peer_run(uint8_t *image, size_t image_len,
         .why = DONE,
         .where = 0,
     };
+}
+
+peer_report peer_run(uint8_t *image, size_t image_len,
+                     uint8_t *pad, size_t pad_len,
+                     uint8_t *vdp, size_t vdp_len,
+                     uint8_t *reg, size_t reg_len,
+                     uint32_t *journal, size_t journal_len,
+                     uint16_t pc, size_t used, uint8_t ring, size_t place, uint8_t writable, uint32_t n)
+{
+    /* "Answer 11 is tested first and touches nothing." */
+    if (bad_lengths(image_len, pad_len, vdp_len, reg_len, journal_len, used) || bad_place(journal_len, ring, place))
+        return (peer_report){BAD_LENGTH, pc, used, 0, 0, 0, place};
+
+    struct bench b = lent(image, image_len, pad, vdp, reg, journal, journal_len, pc, used, ring, place, writable);
     uint32_t steps = 0;
     uint64_t stores = 0;
 
@@ -1319,19 +1327,7 @@ peer_report peer_step_back(uint8_t *image, size_t image_len,
     if (bad_lengths(image_len, pad_len, vdp_len, reg_len, journal_len, used) || bad_place(journal_len, ring, place))
         return (peer_report){BAD_LENGTH, pc, used, 0, 0, 0, place};
 
-    struct bench b = {
-        .image = image,
-        .pad = pad,
-        .vdp = vdp,
-        .reg = reg,
-        .journal = journal,
-        .journal_len = journal_len,
-        .ring = ring != 0,
-        .place = ring ? place : 0,
-        .used = used,
-        .image_len = (uint32_t)image_len,
-        .writable = writable,
-    };
+    struct bench b = lent(image, image_len, pad, vdp, reg, journal, journal_len, pc, used, ring, place, writable);
     /* "takes words from the top down to the newest mark" */
     size_t count = newest_record(&b);
     if (count == 0)
