@@ -2,9 +2,14 @@
 use mathlib.Core.Path.{_≡_}
 use mathlib.Core.Bool.{Bool, true}
 use Prim.Native.Nat.{ℕ}
-use Rattle.rules.specs.Machine.{pick, Kind, cpu, vdp, register, grom, Area}
+use denote.Ref.{now}
+use Rattle.rules.specs.Machine.{pick, Kind, cpu, vdp, register, grom, Area, Mem, State}
 use Rattle.rules.specs.Answers.{saying}
 use Rattle.rules.specs.Journal.{kindNumber, note, sound}
+use Rattle.ring.specs.declared.book.Book.{Book}
+use Rattle.machine.specs.Meaning.{Lent, memOf}
+use Rattle.bench.specs.declared.at.At.{At}
+use Rattle.bench.specs.Meaning.{stateAt}
 use Rattle.culprit.specs.Culprit as culprit
 use Rattle.culprit.specs.Culprit.{Writer, nobody, writer, trail, told, refusal, noneKept, wrote}
 use Rattle.culprit.specs.declared.trail.Cell.{Cell}
@@ -12,6 +17,14 @@ use Rattle.culprit.specs.declared.trail.Cell.the-variants.{Cpu, Vdp, Reg
 use Rattle.culprit.specs.declared.trail.Trail.{Trail}
 use Rattle.culprit.specs.declared.trail.Wrote.{Wrote}
 use Rattle.culprit.specs.declared.trail.Wrote.the-variants.{Step, NoneKept, Refused}
+
+-- the machine that a call is lent to look at, by where it stands
+abbrev pub seen : Lent → Lent → Lent → Lent → Lent → At → State
+seen i p v g j at = stateAt (now (i .entry)) (now (p .entry)) (now (v .entry)) (now (g .entry)) (now (j .entry)) at
+
+-- and by its writable groups and its journal's book
+abbrev pub seenBy : Lent → Lent → Lent → Lent → Lent → ℕ → Book → Mem
+seenBy i p v g j w b = memOf (now (i .entry)) w (now (p .entry)) (now (v .entry)) (now (g .entry)) (now (j .entry)) b
 
 abbrev pub kindOf : Cell → Kind
 kindOf Cpu = cpu

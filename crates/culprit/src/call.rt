@@ -7,9 +7,8 @@ use bench::fits;
 use machine::answers::Why;
 use ring::book::Book;
 ghost use mathlib.Core.Path.{_≡_};
-ghost use Rattle.bench.specs.Meaning.{stateAt};
 ghost use Rattle.culprit.specs.Culprit.{whoWrote};
-ghost use Rattle.culprit.specs.Meaning.{kindOf, wroteOf};
+ghost use Rattle.culprit.specs.Meaning.{seen, kindOf, wroteOf};
 
 // Of any machine and any cell. Nothing is lent to be changed.
 pub fn who_wrote(
@@ -22,7 +21,7 @@ pub fn who_wrote(
     which: Cell,
     cell: u16,
 ) -> Wrote
-    ensures { λ r. ⌜ wroteOf r ≡ whoWrote (kindOf which) cell (stateAt (now (image .entry)) (now (pad .entry)) (now (vram .entry)) (now (regs .entry)) (now (journal .entry)) at .mem) ⌝ }
+    ensures { λ r. ⌜ wroteOf r ≡ whoWrote (kindOf which) cell (seen image pad vram regs journal at .mem) ⌝ }
 {
     let fit = fits::all_fit(
         image.len(),

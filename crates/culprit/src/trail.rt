@@ -10,10 +10,10 @@ ghost use lib.ListN.{length, getD, take};
 ghost use Rattle.rules.specs.Machine.{_also_, upon, areaOf};
 ghost use Rattle.rules.specs.Answers.{number, saying};
 ghost use Rattle.rules.specs.Journal.{kindNumber, note, turned};
-ghost use Rattle.machine.specs.Meaning.{memOf, whyOf};
+ghost use Rattle.machine.specs.Meaning.{whyOf};
 ghost use Rattle.culprit.specs.Culprit as culprit;
 ghost use Rattle.culprit.specs.Culprit.{trail, later, stamped, marked, refusal, answered, fitWho};
-ghost use Rattle.culprit.specs.Meaning.{kindOf, wroteOf, trailOf, Tells};
+ghost use Rattle.culprit.specs.Meaning.{seenBy, kindOf, wroteOf, trailOf, Tells};
 
 // Which memory the cell is of.
 pub enum Cell {
@@ -225,7 +225,7 @@ pub fn who(
     at: usize,
 ) -> Wrote
     requires { ⌜ b .used ≤ length (now journal) ⌝ }
-    ensures { λ r. ⌜ wroteOf r ≡ fitWho (kindOf which) at (memOf (now (image .entry)) groups (now (pad .entry)) (now (vram .entry)) (now (regs .entry)) (now (journal .entry)) b) ⌝ }
+    ensures { λ r. ⌜ wroteOf r ≡ fitWho (kindOf which) at (seenBy image pad vram regs journal groups b) ⌝ }
 {
     let left = standing(image, pad, vram, regs, which, at);
     trace(journal, b, image.len(), groups, which, at, left)

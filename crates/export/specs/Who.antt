@@ -8,7 +8,7 @@ use denote.Ref.{now}
 use Rattle.rules.specs.Machine.{pick, Kind, cpu, vdp, register, grom, Mem}
 use Rattle.machine.specs.Meaning.{Lent}
 use Rattle.bench.specs.declared.at.At.{At}
-use Rattle.bench.specs.Meaning.{stateAt}
+use Rattle.culprit.specs.Meaning.{seen}
 use Rattle.culprit.specs.Culprit.{Wrote, refusal, noneKept, wrote, whoWrote}
 use Rattle.export.specs.Meaning.{Numbers}
 
@@ -45,4 +45,4 @@ NumbersOf w answer out = numbers answer (now (out .exit)) ≡ numbersOf w
 -- they are what is said of the parts lent
 abbrev pub SaysWho : ℕ → ℕ → Lent → Lent → Lent → Lent → Lent → At → ℕ → Lent → Type 0
 SaysWho memory cell i p v g j at answer out =
-    NumbersOf (asked memory cell (stateAt (now (i .entry)) (now (p .entry)) (now (v .entry)) (now (g .entry)) (now (j .entry)) at .mem)) answer out
+    NumbersOf (asked memory cell (seen i p v g j at .mem)) answer out

@@ -8,7 +8,7 @@ use Rattle.rules.specs.Journal.{kindNumber}
 use Rattle.rules.specs.Demands.{Good, Past}
 use Rattle.machine.specs.Meaning.{Lent}
 use Rattle.bench.specs.declared.at.At.{At}
-use Rattle.bench.specs.Meaning.{stateAt, Returned, standsAt}
+use Rattle.bench.specs.Meaning.{Returned, standsAt}
 use Rattle.bench.specs.Promised.{Said, pastOf}
 use Rattle.culprit.specs.declared.trail.Wrote.{Wrote}
 use Rattle.culprit.specs.Culprit as culprit
@@ -18,10 +18,6 @@ use Rattle.export.specs.Meaning.{stands, Numbers}
 use Rattle.export.specs.Who.{numbers, numbersOf}
 use Rattle.witness.specs.Demanded.{Led}
 use Rattle.witness.specs.Hosted.{HostCalled}
-
--- the state that a call was lent to look at
-abbrev pub seen : Lent → Lent → Lent → Lent → Lent → At → State
-seen i p v g j at = stateAt (now (i .entry)) (now (p .entry)) (now (v .entry)) (now (g .entry)) (now (j .entry)) at
 
 -- wherever the calls began
 abbrev pub Blames : Kind → ℕ → State → Wrote → Type 0

@@ -2,7 +2,8 @@
 ghost use Rattle.machine.specs.Meaning.{_&_, Groups, Image, Journal, Pad, Regs, Vram};
 ghost use Rattle.witness.specs.Demanded.{Step, Back, Run};
 ghost use Rattle.witness.specs.Hosted.{RepliesIn, ReportsIn, Views};
-ghost use Rattle.witness.specs.Blamed.{seen, BlamesIn};
+ghost use Rattle.witness.specs.Blamed.{BlamesIn};
+ghost use Rattle.culprit.specs.Meaning.{seen};
 
 // A step meets demand 1 or demand 2.
 pub fn step(

@@ -3,9 +3,9 @@ use bench::at::At;
 use culprit::trail::Cell;
 use culprit::trail::Wrote;
 ghost use Rattle.machine.specs.Meaning.{_&_, Groups, Image, Journal, Pad, Regs, Vram};
-ghost use Rattle.culprit.specs.Meaning.{kindOf};
+ghost use Rattle.culprit.specs.Meaning.{seen, kindOf};
 ghost use Rattle.witness.specs.Demanded.{Meets, forgetting};
-ghost use Rattle.witness.specs.Blamed.{seen, Blames, BlamesAfter};
+ghost use Rattle.witness.specs.Blamed.{Blames, BlamesAfter};
 
 // Of the machine as it stands.
 pub fn who_wrote(
