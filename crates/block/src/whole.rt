@@ -117,7 +117,7 @@ fn any_bytes(
     x
 }
 
-// The bytes one by one, until one is refused. What goes to VDP RAM has loops of its own.
+// The bytes one by one, until one is refused. What goes to VDP RAM has loops of its own, but not in a ring.
 fn move_bytes(
     image: &mut [u8],
     pad: &mut [u8],
@@ -133,14 +133,17 @@ fn move_bytes(
     requires { ⌜ IsPad pad × IsVram vram × IsRegs regs ⌝ }
     ensures { λ r. ⌜ Does (moveBytes n 0 (originOf from) (targetOf to)) (Image image & Groups groups & Pad pad & Vram vram & Regs regs & Journal journal) m r ⌝ }
 {
-    match to {
-        Target::Video(t) => match from {
-            Origin::Grom(a) => grom_bytes(image, vram, journal, m, n, a, t),
-            Origin::Cpu(a) => pad_bytes(pad, vram, journal, m, n, a, t),
-            Origin::Vdp(a) => vdp_bytes(vram, journal, m, n, a, t),
-        },
-        _ => any_bytes(image, pad, vram, regs, journal, m, groups, n, from, to),
+    let book = m.book;
+    if !book.ring {
+        if let Target::Video(t) = to {
+            match from {
+                Origin::Grom(a) => return grom_bytes(image, vram, journal, m, n, a, t),
+                Origin::Cpu(a) => return pad_bytes(pad, vram, journal, m, n, a, t),
+                Origin::Vdp(a) => return vdp_bytes(vram, journal, m, n, a, t),
+            }
+        }
     }
+    any_bytes(image, pad, vram, regs, journal, m, groups, n, from, to)
 }
 
 // By the low five bits of the opcode: 4 to RAM, 3 a register, 2 a source operand, 1 an index, 0 an immediate length.

@@ -1,6 +1,7 @@
 // The state, and the few functions that make one; a value given, a jump and a need.
 use crate::answers;
 use crate::answers::Why;
+use ring::book;
 use ring::book::Book;
 ghost use mathlib.Core.Path.{_≡_};
 ghost use Rattle.rules.specs.Answers.{answerFor};
@@ -35,7 +36,7 @@ pub fn begin(pc: u16, book: Book) -> Now
 pub fn refused(m: Now, why: Why) -> Now
     ensures { λ r. ⌜ r ≡ refusedBy (answerFor (whyOf why)) m ⌝ }
 {
-    let book = m.book;
+    let book = book::afresh(m.book);
     Now {
         pc: m.pc,
         book,
@@ -50,7 +51,7 @@ pub fn refused(m: Now, why: Why) -> Now
 pub fn read(m: Now, pc: u16, b: u8) -> Now
     ensures { λ r. ⌜ r ≡ readBy pc b m ⌝ }
 {
-    let book = m.book;
+    let book = book::afresh(m.book);
     Now {
         pc,
         book,
@@ -65,9 +66,10 @@ pub fn read(m: Now, pc: u16, b: u8) -> Now
 pub fn keeping(m: Now, book: Book) -> Now
     ensures { λ r. ⌜ r ≡ keptBy book m ⌝ }
 {
+    let kept = book::afresh(book);
     Now {
         pc: m.pc,
-        book,
+        book: kept,
         answer: m.answer,
         address: m.address,
         byte: 0,
@@ -85,7 +87,7 @@ pub fn give_byte(m: Now, b: u8) -> Now
 pub fn give_word(m: Now, w: u16) -> Now
     ensures { λ r. ⌜ (r .word ≡ w) × Gives (r .word) (give w) Nothing m r ⌝ }
 {
-    let book = m.book;
+    let book = book::afresh(m.book);
     Now {
         pc: m.pc,
         book,

@@ -7,16 +7,17 @@ use Prim.Native.Nat.{ℕ, zero, suc, _+_, _-_, _/_, _%_, _^_, _≤_, _<_}
 use native.Mathlib.Nat.{not-suc-le-zero, mod-add-mod}
 use native.Mathlib.Numerals.{add-one}
 use native.Mathlib.Omega.{arith}
+use lib.Dec.{ltb}
 use lib.ListN.{length, getD, set, take, drop}
 use lib.Seq.{take-append-le, take-all, take-nil, length-take-le}
 use borrow.Author.Tests.{lt-ltb, le-ltb, ne-eqb}
-use Rattle.rules.specs.Machine.{_also_, Mem, mem, beside}
+use Rattle.rules.specs.Machine.{pick, _also_, Mem, mem, beside}
 use Rattle.rules.specs.Journal.{turned, lay, zeroTop, marks, untilMark, oldest, olderWords, forget}
 use Rattle.rules.specs.Rules.{room, spare}
 use Rattle.rules.proofs.Forget.{length-forget, until-within, forget-none, forget-more}
 use Rattle.ring.specs.Meaning.{booked, slotOf, Laying}
 use Rattle.ring.specs.declared.book.Book.{Book}
-use Rattle.ring.proofs.Turned.{length-turned, as-long, no-longer, slot-plain, turned-set, turned-forget}
+use Rattle.ring.proofs.Turned.{length-turned, turned-set, turned-forget}
 
 abbrev book : ℕ → ℕ → ℕ → Bool → Book
 book u o a r = record { used = u; older = o; place = a; ring = r }
@@ -173,6 +174,30 @@ module _ (w : ℕ) (m : Mem) where
   pub lays-not : {c : Mem} → room (spare m) ≡ false → c ≡ spare m → Laying w m false c
   lays-not h e = (sym h, e ∙ rw h)
 
+  -- where room is left
+  pub lays-there : {c : Mem} → m .used < length (m .journal) → c ≡ lay w m → Laying w m true c
+  lays-there h e = lays (ap room (sym (room-left m h)) ∙ lt-ltb (m .used) _ h) (e ∙ ap (lay w) (room-left m h))
+
+  -- of a plain journal that is full
+  pub lays-none : length (m .journal) ≤ m .used → m .ring ≡ false → Laying w m false m
+  lays-none h e = lays-not (ap room (sym (spare-plain m h e)) ∙ le-ltb (m .used) _ h) (spare-plain m h e)
+
+  -- the mode stays: with it the book is the one that was handed back
+  ring-stays : {c : Mem} {d : Bool} → Laying w m d c → c .ring ≡ m .ring
+  unfolding spare _also_
+  ring-stays h = ap (λ (n : Mem). n .ring) (h .1) ∙ go (room (spare m)) (room m) (m .ring also ltb 0 (m .older))
+    where
+      go : (b f o : Bool) → pick b (lay w (pick f m (pick o (forget (oldest (olderWords m)) m) m))) (pick f m (pick o (forget (oldest (olderWords m)) m) m)) .ring ≡ m .ring
+      go true true o = refl
+      go true false true = refl
+      go true false false = refl
+      go false true o = refl
+      go false false true = refl
+      go false false false = refl
+
+  pub in-mode : (j : List ℕ) (l : Book) (x : Mem) {d : Bool} → Laying w m d (booked j l x) → Laying w m d (booked j (book (l .used) (l .older) (l .place) (m .ring)) x)
+  in-mode j l x {d} h = subst (λ (r : Bool). Laying w m d (booked j (book (l .used) (l .older) (l .place) r) x)) (ring-stays h) h
+
   pub done-so : {c : Mem} {d : Bool} → Laying w m d c → d ≡ true → (room (spare m) ≡ true) × (c ≡ lay w (spare m))
   done-so h e =
       let z : room (spare m) ≡ true = sym (h .0) ∙ e in
@@ -182,19 +207,3 @@ module _ (w : ℕ) (m : Mem) where
   not-done h e =
       let z : room (spare m) ≡ false = sym (h .0) ∙ e in
       (z, rw z at (h .1))
-
--- of a plain journal
-module _ (j : List ℕ) (b : Book) (x : Mem) (r : b .ring ≡ false) where
-  pub plain-full : (w : ℕ) → length j ≤ b .used → Laying w (booked j b x) false (booked j b x)
-  plain-full w h =
-      let full : length (turned (b .ring) (b .place) j) ≤ b .used = no-longer (b .ring) (b .place) j h in
-      let same : booked j b x ≡ spare (booked j b x) = spare-plain (booked j b x) full r in
-      lays-not w (booked j b x) (ap room (sym same) ∙ le-ltb (b .used) _ full) same
-
-  pub plain-laid : (w : ℕ) → b .used < length j
-      → Laying w (booked j b x) true (booked (set j (b .used) w) (book (b .used + 1) (b .older) (b .place) (b .ring)) x)
-  plain-laid w h =
-      let free : b .used < length (turned (b .ring) (b .place) j) = as-long (b .ring) (b .place) j h in
-      let same : booked j b x ≡ spare (booked j b x) = room-left (booked j b x) free in
-      lays w (booked j b x) (ap room (sym same) ∙ lt-ltb (b .used) _ free)
-      (laid j b x (b .used) w h (slot-plain (b .place) (length j) (b .used) (b .ring) r) ∙ ap (lay w) same)

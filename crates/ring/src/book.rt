@@ -25,6 +25,19 @@ pub struct Laid {
     pub done: bool,
 }
 
+// The same book, field by field. A struct that is copied whole is copied with the empty bytes behind its last field, one of the dearest parts of a small
+// step.
+pub fn afresh(b: Book) -> Book
+    ensures { λ r. ⌜ r ≡ b ⌝ }
+{
+    Book {
+        used: b.used,
+        older: b.older,
+        place: b.place,
+        ring: b.ring,
+    }
+}
+
 // A place among n words.
 fn within(n: usize, place: usize) -> usize
     requires { ⌜ 0 < n ⌝ }
@@ -203,27 +216,32 @@ pub fn lay_round(journal: &mut [u32], b: Book, w: u32) -> Laid
     Laid { book, done: true }
 }
 
-// The same, and the quick way for a plain journal: short, so that the compiler puts it in line where a byte is stored.
+// The same, with the common case in line where a byte is stored. The book of a full ring is lent as a copy, and its mode is not taken from the reply: else
+// the one that goes on would stand in memory at every store, and a loop of stores could not be split by the mode.
 pub fn lay(journal: &mut [u32], b: Book, w: u32) -> Laid
     ensures { λ r. ⌜ Lays w journal b r ⌝ }
 {
-    if b.ring {
-        return lay_round(journal, b, w);
-    }
     let used = b.used;
-    if journal.len() <= used {
+    if used < journal.len() {
+        let book = put(journal, b, w);
+        return Laid { book, done: true };
+    }
+    if !b.ring {
         return Laid {
             book: b,
             done: false,
         };
     }
-    journal[used] = w;
-    let more = used + 1;
+    let round = lay_round(journal, afresh(b), w);
+    let left = round.book;
     let book = Book {
-        used: more,
-        older: b.older,
-        place: b.place,
+        used: left.used,
+        older: left.older,
+        place: left.place,
         ring: b.ring,
     };
-    Laid { book, done: true }
+    Laid {
+        book,
+        done: round.done,
+    }
 }

@@ -1,4 +1,4 @@
--- By where it goes, and where it comes from.
+-- By where it goes, and where it comes from; in a ring any ends.
 use borrow.Author.Needs.{needs}
 use Rattle.block.proofs.whole.move_bytes.Statement.{statement}
 use Rattle.block.proofs.whole.move_bytes.Tie as tie
@@ -26,7 +26,6 @@ returns-4 c = search needs
 
 pub move-bytes-spec : {M : Type 1} → statement M
 move-bytes-spec =
-    tie.close (tie.spec (search needs) (search needs) (search needs) (search needs) (search needs) (search needs)
-    (search needs) (search needs) (search needs) (search needs) (search needs) returns (search needs) (search needs)
-    (search needs) returns-2 (search needs) (search needs) returns-3 (search needs) (search needs) (search needs)
-    (search needs) (search needs) returns-4)
+    tie.close (tie.spec (search needs) (search needs) (search needs) (search needs) (search needs) (search needs) returns (search needs) (search needs)
+    (search needs) (search needs) (search needs) returns-2 (search needs) (search needs) (search needs) (search needs) returns-3 (search needs) (search needs)
+    (search needs) (search needs) (search needs) (search needs) returns-4)

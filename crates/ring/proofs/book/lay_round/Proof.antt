@@ -6,14 +6,12 @@ use Rattle.rules.specs.Rules.{room}
 use Rattle.rules.specs.Journal as journal
 use Rattle.ring.specs.Meaning.{booked}
 use Rattle.ring.proofs.Turned.{as-long, no-longer}
-use Rattle.ring.proofs.Books.{room-left, lays, lays-not}
+use Rattle.ring.proofs.Books.{lays, lays-not, lays-there}
 use Rattle.ring.proofs.book.lay_round.Statement.{statement}
 use Rattle.ring.proofs.book.lay_round.Tie as tie
 
 returns : tie.Need-returns
-returns c =
-    λ x. lays _ (booked _ _ x) (ap room (sym (room-left (booked _ _ x) (as-long _ _ _ (c .before .before .before .before .if1 .taken)))) ∙ lt-ltb _ _ (as-long _ _ _ (c .before .before .before .before .if1 .taken)))
-    (c .before .before .put .ensures x ∙ ap (journal.lay _) (room-left (booked _ _ x) (as-long _ _ _ (c .before .before .before .before .if1 .taken))))
+returns c = λ x. lays-there _ (booked _ _ x) (as-long _ _ _ (c .before .before .before .before .if1 .taken)) (c .before .before .put .ensures x)
 
 returns-2 : tie.Need-returns-2
 returns-2 c = λ x. lays-not _ (booked _ _ x) (ap room (sym (c .before .before .before .spare .ensures x)) ∙ le-ltb _ _ (no-longer _ _ _ (c .if2 .taken))) (c .before .before .before .spare .ensures x)
