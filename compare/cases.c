@@ -4,7 +4,8 @@
    writes its own code over a part of it and the next case takes that away
    again.  The pad follows a plan, so that most operands name something:
    >10 to >1F index words, >20 to >2F words that are VDP addresses, >30 to >3F
-   bytes that are pad offsets, >40 to >4F words that are lengths. */
+   bytes that are pad offsets, >40 to >4F words that are lengths, >60 to >67
+   addresses of sound lists, >68 to >6B the words 0 and 1. */
 #include "cases.h"
 
 #include <string.h>
@@ -13,11 +14,19 @@ enum {
     INDEX_WORDS = 0x10,
     ADDRESS_WORDS = 0x20,
     OFFSET_BYTES = 0x30,
-    LENGTH_WORDS = 0x40
+    LENGTH_WORDS = 0x40,
+    LIST_WORDS = 0x60,
+    SOURCE_WORDS = 0x68
 };
 
 /* Room in the journal that runs out about the end of an ALL. */
 enum { ALL_ROOM_LOW = 768, ALL_ROOM_HIGH = 772 };
+
+/* The sound lists of a case, each with a word of the pad. */
+enum { LISTS = 4 };
+
+/* The pad cells of the list that plays. */
+enum { LIST_ADDRESS = 0xCC, LIST_COUNT = 0xCE };
 
 /* A ring doesn't end a run, so its runs are no longer than this. */
 enum { RING_RUN = 3000 };
@@ -61,10 +70,17 @@ static bool percent(struct dice *d, uint32_t p)
 
 /* ---- writing code ---- */
 
+/* Where a sound list begins: in VDP RAM, or in GROM. */
+struct head {
+    bool vdp;
+    uint16_t at;
+};
+
 struct writer {
     struct maker *maker;
     struct dice *dice;
     const uint8_t *pad; /* the pad that the code will meet, or NULL */
+    const struct head *list; /* LISTS of them, or NULL */
     size_t image_len;
     uint8_t writable;
     bool keep_patches;
@@ -125,7 +141,7 @@ static uint32_t edge_word(struct dice *d)
 static uint32_t cpu_target(struct dice *d, uint32_t width)
 {
     static const uint8_t cells[] = {
-        0x72, 0x73, 0x78, 0x7B, 0x7C, 0x7D, 0x7E, 0x7F, 0x80, 0x9E, 0xA0, 0xBF, 0xC0, 0xC1, 0xD4
+        0x72, 0x73, 0x78, 0x7B, 0x7C, 0x7D, 0x7E, 0x7F, 0x80, 0x9E, 0xA0, 0xBF, 0xC0, 0xC1, 0xCC, 0xCD, 0xCE, 0xD4
     };
     static const uint8_t screen_cells[] = {0x79, 0x7A, 0x7B, 0x7C, 0x7D, 0x7D, 0x7D, 0x7E};
     static const uint16_t edges[] = {0xDD, 0xDE, 0xDF, 0xE0, 0xE1, 0xFF, 0x100, 0x17D, 0xEFF, 0xF00, 0xFFFF};
@@ -516,6 +532,121 @@ static void put_move_to_grom(struct writer *w)
     put_at(w, low, to & 0xFF);
 }
 
+/* ---- sound lists ---- */
+
+/* Anywhere in its memory, about its end, or past it. */
+static struct head some_head(struct dice *d, size_t image_len)
+{
+    bool vdp = one_in(d, 2);
+    uint32_t end = vdp ? CASE_VDP_LEN : (uint32_t)image_len;
+    uint32_t r = below(d, 100);
+    uint32_t at = r < 70 ? below(d, end) : r < 95 ? end - between(d, 1, 12) : edge_word(d);
+
+    return (struct head){vdp, (uint16_t)at};
+}
+
+/* A place in a memory where a list's bytes are written. */
+struct pen {
+    struct writer *writer;
+    uint8_t *vdp; /* NULL: GROM */
+    uint32_t at;
+};
+
+static void pen_byte(struct pen *p, uint32_t byte)
+{
+    uint32_t at = p->at++ & 0xFFFF;
+
+    if (!p->vdp)
+        put_at(p->writer, at, byte);
+    else if (at < CASE_VDP_LEN)
+        p->vdp[at] = (uint8_t)byte;
+}
+
+static uint32_t some_count(struct dice *d)
+{
+    uint32_t r = below(d, 100);
+    return r < 60 ? 1 : r < 80 ? between(d, 2, 3) : r < 90 ? 0 : edge_byte(d);
+}
+
+/* A block that is sent: mostly a few bytes, now and then as many as there can be. */
+static void pen_block(struct pen *p, uint32_t count)
+{
+    struct dice *d = p->writer->dice;
+    uint32_t r = below(d, 100);
+    uint32_t size = r < 75 ? between(d, 1, 4) : r < 92 ? between(d, 5, 20) : between(d, 252, 254);
+
+    pen_byte(p, size);
+    for (uint32_t i = 0; i < size; i++)
+        pen_byte(p, below(d, 256));
+    pen_byte(p, count);
+}
+
+/* A size of 0 or >FF, and the address of a list in the same memory or in the other; any address, if there is none. */
+static void pen_leap(struct pen *p, bool other)
+{
+    struct writer *w = p->writer;
+    bool vdp = (p->vdp != NULL) != other;
+    uint32_t from = below(w->dice, LISTS), to = some_head(w->dice, w->image_len).at;
+
+    for (uint32_t i = 0; i < LISTS; i++)
+        if (w->list[(from + i) % LISTS].vdp == vdp)
+            to = w->list[(from + i) % LISTS].at;
+    pen_byte(p, other ? 0xFF : 0);
+    pen_byte(p, to >> 8);
+    pen_byte(p, to & 0xFF);
+}
+
+/* A few blocks, then an end, a leap, or whatever stands there. */
+static void write_list(struct writer *w, uint8_t *vdp, struct head head)
+{
+    struct pen pen = {w, head.vdp ? vdp : NULL, head.at};
+    uint32_t end = below(w->dice, 100);
+
+    for (uint32_t blocks = below(w->dice, 4); blocks > 0; blocks--)
+        pen_block(&pen, some_count(w->dice));
+    if (end < 25)
+        pen_block(&pen, 0);
+    else if (end < 90)
+        pen_leap(&pen, end >= 55);
+}
+
+/* The source of an I/O: 0 or 1, mostly. */
+static void put_function(struct writer *w, uint32_t op, uint32_t source)
+{
+    struct dice *d = w->dice;
+    uint32_t width = 1 + (op & 1);
+    bool other = percent(d, 10);
+
+    if (other)
+        source = one_in(d, 2) ? between(d, 2, 3) : edge_word(d);
+    if (op & 2) {
+        if (width == 2)
+            put(w, source >> 8);
+        put(w, source & 0xFF);
+    } else if (other) {
+        put_operand(w, width);
+    } else {
+        put(w, SOURCE_WORDS + 2 * source + (width == 1 ? 1 : 0));
+    }
+}
+
+/* I/O: mostly the address of one of the lists, with its source; other cells too, and the last in reach. */
+static void put_sound(struct writer *w)
+{
+    struct dice *d = w->dice;
+    uint32_t op = between(d, 0xF4, 0xF7), i = below(d, LISTS), r = below(d, 100);
+    uint32_t source = w->list && percent(d, 90) ? w->list[i].vdp : below(d, 2);
+
+    put(w, op);
+    if (r < 80)
+        put_cpu_operand(w, LIST_WORDS + 2 * i);
+    else if (r < 85)
+        put_offset(w, 0, between(d, 0xDD, 0xE0));
+    else
+        put_operand(w, 1 + (op & 1));
+    put_function(w, op, source);
+}
+
 /* ---- instructions ---- */
 
 /* A third of the immediates lie about the value that the destination holds. */
@@ -624,7 +755,7 @@ static void put_plain(struct writer *w)
 static void put_undone(struct writer *w)
 {
     static const uint8_t ops[] = {
-        0x0B, 0x0B, 0x03, 0x0F, 0xF4, 0xF5, 0xF6, 0xF7, 0x0E, 0x10, 0x13, 0x1F, 0x26, 0x27, 0x28,
+        0x0B, 0x0B, 0x03, 0x0F, 0x0E, 0x10, 0x13, 0x1F, 0x26, 0x27, 0x28,
         0x2D, 0x2F, 0x36, 0x37, 0x3E, 0x3F, 0x98, 0x9F, 0xC2, 0xC3, 0xEC, 0xEE, 0xEF, 0xF0, 0xF3, 0xF8, 0xFC, 0xFF
     };
     put(w, PICK(w->dice, ops));
@@ -641,6 +772,8 @@ static void put_instruction(struct writer *w, uint32_t undone_percent)
         put_coincidence(w);
     else if (r < 12)
         put_move_to_grom(w);
+    else if (r < 15)
+        put_sound(w);
     else if (r < 40)
         put_two_operands(w);
     else if (r < 60)
@@ -690,6 +823,8 @@ static void fill_pad(struct dice *d, uint8_t *pad)
     }
     for (uint32_t i = 0; i < 16; i++)
         pad[OFFSET_BYTES + i] = (uint8_t)cpu_target(d, 2);
+    set_word(pad, SOURCE_WORDS, 0);
+    set_word(pad, SOURCE_WORDS + 2, 1);
     fill_stack_pointers(d, pad);
     pad[0x7E] = (uint8_t)(percent(d, 75)   ? below(d, 24)
                           : percent(d, 50) ? between(d, 22, 25)
@@ -697,6 +832,20 @@ static void fill_pad(struct dice *d, uint8_t *pad)
     pad[0x7F] = (uint8_t)(percent(d, 70)   ? below(d, 32)
                           : percent(d, 50) ? between(d, 30, 33)
                                            : edge_byte(d));
+}
+
+/* Where the lists are, and one of them under way. */
+static void fill_sound(struct dice *d, struct test_case *c, struct head list[LISTS])
+{
+    uint32_t first = below(d, LISTS);
+
+    for (uint32_t i = 0; i < LISTS; i++) {
+        list[i] = some_head(d, c->image_len);
+        set_word(c->pad, LIST_WORDS + 2 * i, list[i].at);
+    }
+    set_word(c->pad, LIST_ADDRESS, list[first].at);
+    c->pad[LIST_COUNT] = (uint8_t)some_count(d);
+    c->source = percent(d, 95) ? list[first].vdp : !list[first].vdp;
 }
 
 /* Return addresses: the case's own labels, mostly. */
@@ -773,7 +922,7 @@ static uint32_t *kept_word(const struct test_case *c, size_t i)
 static size_t fill_record(struct dice *d, const struct test_case *c, size_t at)
 {
     uint32_t stores = below(d, 7);
-    *kept_word(c, at++) = journal_word(3, 0, 0) | below(d, 65536);
+    *kept_word(c, at++) = journal_word(3, 0, 0) | below(d, 0x20000); /* pc, and above it the source flag */
     for (; stores > 0 && at < c->used; stores--)
         *kept_word(c, at++) = some_store(d, c);
     return at;
@@ -915,6 +1064,13 @@ static uint32_t some_run(struct dice *d)
     return one_in(d, 2) ? UINT32_MAX : (uint32_t)roll(d);
 }
 
+/* Room for any block, for a few bytes, for none. */
+static size_t some_output_len(struct dice *d)
+{
+    uint32_t r = below(d, 100);
+    return r < 50 ? CASE_OUTPUT_MAX : r < 85 ? below(d, 6) : between(d, 250, CASE_OUTPUT_MAX);
+}
+
 static void some_view(struct dice *d, struct call *call)
 {
     static const size_t edges[] = {
@@ -970,7 +1126,7 @@ static void some_damage(struct dice *d, struct call *call)
 {
     static const uint32_t cells[] = {
         0x00DF00u, 0x00E000u, 0x00FF00u, 0x010000u, 0x20000000u, 0x203FFF00u, 0x20400000u, 0x40000700u,
-        0x40000800u, 0x40010000u, 0x60000000u, 0x60010000u, 0x70000000u, 0x6000FFFFu, 0x80000000u, 0x801FFF00u,
+        0x40000800u, 0x40010000u, 0x60000000u, 0x60010000u, 0x60020000u, 0x70000000u, 0x6000FFFFu, 0x80000000u, 0x801FFF00u,
         0x80200000u, 0x80FFFF00u, 0x81000000u, 0x90000000u, 0xA0000000u, 0xC0000000u, 0xE0000000u
     };
     uint32_t r = below(d, 100);
@@ -1021,20 +1177,44 @@ static void lend_all(const struct test_case *c, struct call *call)
     call->reg_len = CASE_REG_LEN;
     call->journal_len = c->journal_len;
     call->writable = c->writable;
+    call->source_yes = 1;
 }
 
 static void some_pad_byte(struct dice *d, struct call *call)
 {
-    static const uint8_t cells[] = {0x72, 0x73, 0x73, 0x7C, 0x7E, 0x7F};
+    static const uint8_t cells[] = {0x72, 0x73, 0x73, 0x7C, 0x7E, 0x7F, LIST_COUNT};
 
     call->set_pad = true;
     call->pad_at = (uint8_t)(one_in(d, 2) ? PICK(d, cells) : below(d, 256));
     call->pad_byte = (uint8_t)(call->pad_at == 0x72   ? between(d, 0x9E, 0xC0)
                                : call->pad_at == 0x73 ? between(d, 0x7D, 0xA0)
-                                                      : below(d, 256));
+                               : call->pad_at == LIST_COUNT ? some_count(d)
+                                                            : below(d, 256));
 }
 
-static void fill_call(struct writer *w, const struct test_case *c, struct call *call)
+/* The source flag, lent as any value that says the same; or turned, which is any caller's right too. */
+static void some_source(struct dice *d, struct call *call)
+{
+    static const uint8_t yes[] = {1, 1, 1, 2, 0x80, 0xFF};
+
+    call->source_yes = PICK(d, yes);
+    call->turn_source = percent(d, 2);
+}
+
+/* A tick; a block is due at it more often than its list says. */
+static void some_tick(struct dice *d, struct call *call)
+{
+    call->kind = CALL_TICK;
+    call->output_len = some_output_len(d);
+    if (percent(d, 25)) {
+        call->set_pad = true;
+        call->pad_at = LIST_COUNT;
+        call->pad_byte = 1;
+    }
+}
+
+/* ticks: in hundredths of the calls */
+static void fill_call(struct writer *w, const struct test_case *c, struct call *call, uint32_t ticks)
 {
     struct dice *d = w->dice;
     uint32_t r = below(d, 100);
@@ -1043,6 +1223,9 @@ static void fill_call(struct writer *w, const struct test_case *c, struct call *
     call->kind = r < 45 ? CALL_STEP : r < 70 ? CALL_RUN : r < 91 ? CALL_BACK : CALL_VIEW;
     call->n = some_run(d);
     some_mode(d, c, call);
+    some_source(d, call);
+    if (percent(d, ticks))
+        some_tick(d, call);
     if (call->kind == CALL_VIEW)
         some_view(d, call);
     if (percent(d, 6))
@@ -1068,7 +1251,9 @@ static void fill_call(struct writer *w, const struct test_case *c, struct call *
 static void some_reached_cell(struct dice *d, struct call *call)
 {
     static const uint8_t memories[] = {0, 0, 0, 1, 2, 4};
-    static const uint8_t cells[] = {0x72, 0x73, 0x78, 0x7C, 0x7C, 0x7D, 0x7E, 0x7F, 0x80, 0x81, 0xC0, 0xC1, 0xD4};
+    static const uint8_t cells[] = {
+        0x72, 0x73, 0x78, 0x7C, 0x7C, 0x7D, 0x7E, 0x7F, 0x80, 0x81, 0xC0, 0xC1, 0xCC, 0xCE, 0xD4
+    };
     uint32_t memory = PICK(d, memories);
     uint32_t reach = memory == 0 ? 0xE0 : memory == 1 ? 0x4000 : memory == 2 ? 8 : (uint32_t)call->image_len;
 
@@ -1175,12 +1360,28 @@ static void write_gram_code(struct writer *w, struct test_case *c)
         put_instruction(w, 3);
 }
 
+static void write_lists(struct writer *w, struct test_case *c)
+{
+    for (int i = 0; i < LISTS; i++)
+        write_list(w, c->vdp, w->list[i]);
+}
+
+/* One about sound may begin by starting a list. */
+static void write_sound_code(struct writer *w, struct test_case *c)
+{
+    add_label(w);
+    c->pc = w->at;
+    put_sound(w);
+    for (int i = 0; i < 3; i++)
+        put_instruction(w, 3);
+}
+
 /* An instruction that is refused by nothing but its journal: 2 to 5 words, or an FMT of up to 30. */
 static void put_lasting(struct writer *w)
 {
     struct dice *d = w->dice;
 
-    switch (below(d, 5)) {
+    switch (below(d, 6)) {
     case 0: /* INC to DECT */
         put(w, between(d, 0x90, 0x97));
         put(w, below(d, 0x10));
@@ -1195,6 +1396,10 @@ static void put_lasting(struct writer *w)
         break;
     case 3: /* BACK */
         put_word(w, 0x0400 | below(d, 256));
+        break;
+    case 4: /* I/O */
+        put(w, 0xF6);
+        put_word(w, below(d, 0x10) << 8 | below(d, 2));
         break;
     default: /* a character, repeated */
         put(w, 0x08);
@@ -1241,38 +1446,71 @@ static void write_code(struct writer *w, struct test_case *c)
     }
 }
 
+/* What most of a case is for. */
+enum subject { ANYTHING, GRAM, SOUND };
+
+static enum subject some_subject(struct dice *d)
+{
+    uint32_t r = below(d, 100);
+    return r < 20 ? GRAM : r < 40 ? SOUND : ANYTHING;
+}
+
+static void fill_parts(struct dice *d, struct maker *m, struct test_case *c, enum subject subject)
+{
+    c->image = m->image;
+    c->image_len = subject != ANYTHING && one_in(d, 2) ? CASE_IMAGE_MAX : some_image_len(d);
+    c->writable = some_groups(d, c->image_len);
+    c->journal = m->journal;
+    fill_pad(d, c->pad);
+    memcpy(c->vdp, m->noise, sizeof c->vdp);
+    fill_noise(d, c->vdp + below(d, CASE_VDP_LEN - 64), 64);
+    fill_noise(d, c->reg, sizeof c->reg);
+    fill_journal(d, c);
+}
+
+/* The lists come first, so that no code is written over. */
+static void write_subject(struct writer *w, struct test_case *c, enum subject subject)
+{
+    if (subject == SOUND)
+        write_lists(w, c);
+    write_code(w, c);
+    if (subject == GRAM)
+        write_gram_code(w, c);
+    else if (subject == SOUND && one_in(w->dice, 2))
+        write_sound_code(w, c);
+    else if (c->ring && one_in(w->dice, 3))
+        write_loop(w, c);
+}
+
+/* Calls that change something, mostly, and then questions. */
+static void fill_calls(struct writer *w, struct test_case *c, enum subject subject)
+{
+    struct dice *d = w->dice;
+
+    c->call_count = (int)between(d, 1, subject == SOUND ? CASE_CALLS_MAX : CASE_CALLS_MAX / 2);
+    for (int i = 0; i < c->call_count; i++)
+        fill_call(w, c, &c->call[i], subject == SOUND ? 60 : 8);
+    uint32_t asks = between(d, 2, CASE_ASKS_MAX);
+    for (uint32_t i = 0; i < asks; i++)
+        fill_ask(d, c, &c->call[c->call_count++], i == asks - 1);
+}
+
 void maker_make(struct maker *m, uint64_t number, struct test_case *c)
 {
     struct dice d = {m->seed ^ (number + 1) * 0xD1342543DE82EF95u};
+    struct head list[LISTS];
+
     d.state = roll(&d);
     take_patches_away(m);
-
-    c->image = m->image;
-    bool about_gram = one_in(&d, 5);
-    c->image_len = about_gram && one_in(&d, 2) ? CASE_IMAGE_MAX : some_image_len(&d);
-    c->writable = some_groups(&d, c->image_len);
-    c->journal = m->journal;
-    fill_pad(&d, c->pad);
-    memcpy(c->vdp, m->noise, sizeof c->vdp);
-    fill_noise(&d, c->vdp + below(&d, CASE_VDP_LEN - 64), 64);
-    fill_noise(&d, c->reg, sizeof c->reg);
-    fill_journal(&d, c);
+    enum subject subject = some_subject(&d);
+    fill_parts(&d, m, c, subject);
+    fill_sound(&d, c, list);
 
     struct writer w = {
-        .maker = m, .dice = &d, .pad = c->pad, .image_len = c->image_len, .writable = c->writable,
+        .maker = m, .dice = &d, .pad = c->pad, .list = list, .image_len = c->image_len, .writable = c->writable,
         .keep_patches = true};
     c->pc = w.at = start_address(&d, c->image_len);
-    write_code(&w, c);
-    if (about_gram)
-        write_gram_code(&w, c);
-    else if (c->ring && one_in(&d, 3))
-        write_loop(&w, c);
+    write_subject(&w, c, subject);
     fill_return_stack(&w, c->pad);
-
-    c->call_count = (int)between(&d, 1, CASE_CALLS_MAX);
-    for (int i = 0; i < c->call_count; i++)
-        fill_call(&w, c, &c->call[i]);
-    uint32_t asks = between(&d, 2, CASE_ASKS_MAX);
-    for (uint32_t i = 0; i < asks; i++)
-        fill_ask(&d, c, &c->call[c->call_count++], i == asks - 1);
+    fill_calls(&w, c, subject);
 }

@@ -17,13 +17,14 @@ enum {
     CASE_JOURNAL_MAX = 1048576,
     CASE_JOURNAL_ROOM = CASE_JOURNAL_MAX + 1,
     CASE_LENT_EXTRA = 8, /* pad, vdp and reg are lent at most so much too long */
-    CASE_CALLS_MAX = 12,
+    CASE_OUTPUT_MAX = 256, /* bytes lent to a tick; no block has so many */
+    CASE_CALLS_MAX = 24,
     CASE_ASKS_MAX = 6, /* after these: who wrote a cell? */
     CASE_PATCHES_MAX = 65536,
     CASE_LABELS_MAX = 32
 };
 
-enum call_kind { CALL_STEP, CALL_RUN, CALL_BACK, CALL_VIEW, CALL_WHO };
+enum call_kind { CALL_STEP, CALL_RUN, CALL_TICK, CALL_BACK, CALL_VIEW, CALL_WHO, CALL_KINDS };
 
 /* One call, and what is changed on both sides before it. */
 struct call {
@@ -32,6 +33,7 @@ struct call {
     int memory;   /* for a view, and who wrote a cell */
     size_t at;
     size_t len;
+    size_t output_len; /* for a tick */
 
     /* the cell of a kept word so far below the top is asked for, or one beside it, unless the journal is empty */
     bool by_word;
@@ -47,9 +49,11 @@ struct call {
     bool place_past;    /* place is lent as the journal's length plus place_by, for this call alone */
     size_t place_by;
     uint8_t writable;
+    uint8_t source_yes; /* how a source flag that is set is lent: any value but 0 */
 
     bool set_pc;
     uint16_t pc;
+    bool turn_source;
     bool set_pad;
     uint8_t pad_at, pad_byte;
     size_t drop_used;   /* used goes down by so much, at most to 0 */
@@ -73,6 +77,7 @@ struct test_case {
     uint8_t ring; /* of most calls; any value but 0 asks for a ring */
     size_t place; /* in a ring below the journal's length, or 0 */
     uint16_t pc;
+    bool source;
     int call_count;
     struct call call[CASE_CALLS_MAX + CASE_ASKS_MAX];
 };

@@ -21,6 +21,7 @@ struct part {
 struct side {
     const struct machine *machine;
     struct part image, pad, vdp, reg, journal;
+    struct part output; /* of the newest tick */
 };
 
 struct outcome {
@@ -28,6 +29,7 @@ struct outcome {
     size_t shown;
     size_t offset;
     peer_wrote wrote;
+    size_t sent;
 };
 
 /* A cell that is asked for: memory and address, as they are lent. */
@@ -37,7 +39,7 @@ struct cell {
 };
 
 struct counts {
-    uint64_t cases, calls, calls_of_kind[5];
+    uint64_t cases, calls, calls_of_kind[CALL_KINDS];
     uint64_t answers[256];      /* of every call but views and who wrote a cell */
     uint64_t step_answers[256]; /* of single steps */
     uint64_t tries, accepted;   /* steps, those of runs included */
@@ -68,6 +70,18 @@ struct counts {
     uint64_t named_again;         /* that step stored there more than once */
     uint64_t none_kept, none_empty, none_round;
     uint64_t walked;              /* steps taken back to check all that */
+
+    /* of ticks */
+    uint64_t tick_answers[256];
+    uint64_t no_list, counted;    /* >CE was 0, or came to something else */
+    uint64_t blocks[2];           /* sent from GROM, from VDP RAM */
+    uint64_t leaps, turns;        /* a new address, in the same memory or in the other */
+    uint64_t ends;                /* a count of 0 */
+    uint64_t bytes;
+    uint64_t list_wraps;          /* past >FFFF */
+    uint64_t filled;              /* outputs, to their last byte */
+    uint64_t wiped;               /* refused with bytes written before */
+    uint64_t flags_back;          /* step-backs that turned the source flag */
 };
 
 /* What the calls hand on to one another. */
@@ -75,11 +89,13 @@ struct at {
     uint16_t pc;
     size_t used;
     size_t place;
+    uint8_t source; /* 0 or 1 */
 };
 
-static const struct machine peer_machine = {"peer", peer_step, peer_run, peer_step_back, peer_view, peer_who_wrote};
+static const struct machine peer_machine = {
+    "peer", peer_step, peer_run, peer_tick, peer_step_back, peer_view, peer_who_wrote};
 
-static const char *const kind_name[] = {"step", "run", "step-back", "view", "who-wrote"};
+static const char *const kind_name[] = {"step", "run", "tick", "step-back", "view", "who-wrote"};
 
 /* ---- lent parts ---- */
 
@@ -139,6 +155,7 @@ static void side_make(struct side *s, const struct machine *machine)
     part_make(&s->vdp, CASE_VDP_LEN + CASE_LENT_EXTRA);
     part_make(&s->reg, CASE_REG_LEN + CASE_LENT_EXTRA);
     part_make(&s->journal, CASE_JOURNAL_ROOM * sizeof(uint32_t));
+    part_make(&s->output, CASE_OUTPUT_MAX);
 }
 
 static void side_free(struct side *s)
@@ -148,6 +165,7 @@ static void side_free(struct side *s)
     free(s->vdp.block);
     free(s->reg.block);
     free(s->journal.block);
+    free(s->output.block);
 }
 
 static void side_start(struct side *s, const struct test_case *c)
@@ -168,6 +186,21 @@ static uint32_t *kept_word(const struct side *s, const struct call *call, size_t
     return journal_words(s) + (call->ring ? (place % len + i) % len : i);
 }
 
+/* A byte that an output holds before a tick, never 0: what is wiped must be seen, and what stays too. */
+static uint8_t output_before(size_t i)
+{
+    return (uint8_t)(i % 255 + 1);
+}
+
+static void fill_output(struct side *s, size_t len)
+{
+    uint8_t bytes[CASE_OUTPUT_MAX];
+
+    for (size_t i = 0; i < len; i++)
+        bytes[i] = output_before(i);
+    part_fill(&s->output, bytes, len);
+}
+
 /* What is changed before a call, the same on both sides. */
 static void edit_side(struct side *s, const struct call *call, const struct at *at)
 {
@@ -177,6 +210,8 @@ static void edit_side(struct side *s, const struct call *call, const struct at *
         uint32_t *word = kept_word(s, call, at->place, at->used - 1 - call->damage_below);
         *word = (*word & call->damage_and) ^ call->damage_xor;
     }
+    if (call->kind == CALL_TICK)
+        fill_output(s, call->output_len);
 }
 
 static void edit_numbers(const struct call *call, struct at *at)
@@ -186,12 +221,14 @@ static void edit_numbers(const struct call *call, struct at *at)
     at->used -= call->drop_used < at->used ? call->drop_used : at->used;
     if (call->set_place)
         at->place = call->place;
+    at->source ^= call->turn_source;
 }
 
 /* What was lent wrong is not handed on. */
 static void hand_on(const struct call *call, const peer_report *r, struct at *at)
 {
     at->pc = r->pc;
+    at->source = r->source;
     if (!call->used_beyond)
         at->used = r->used;
     if (!call->place_past)
@@ -206,6 +243,11 @@ static size_t lent_used(const struct call *call, size_t used)
 static size_t lent_place(const struct call *call, size_t place)
 {
     return call->place_past ? call->journal_len + call->place_by : place;
+}
+
+static uint8_t lent_source(const struct call *call, uint8_t source)
+{
+    return source ? call->source_yes : 0;
 }
 
 /* The word by which a call names its cell: so far below the top, or the next store's word from there down. */
@@ -250,29 +292,35 @@ static struct outcome make_call(struct side *s, const struct call *call, const s
     uint32_t *journal = journal_words(s);
     uint16_t pc = at->pc;
     size_t used = lent_used(call, at->used), place = lent_place(call, at->place);
-    struct outcome out = {.report = {.pc = pc, .used = used, .place = place}}; /* as it is, if a call only looks */
+    uint8_t source = lent_source(call, at->source);
+    struct outcome out = {.report = {.pc = pc, .used = used, .place = place, .source = at->source}}; /* if a call only looks */
 
     switch (call->kind) {
     case CALL_STEP:
         out.report = m->step(image, call->image_len, pad, call->pad_len, vdp, call->vdp_len, reg,
                              call->reg_len, journal, call->journal_len, pc, used, call->ring, place,
-                             call->writable);
+                             call->writable, source);
         break;
     case CALL_RUN:
         out.report = m->run(image, call->image_len, pad, call->pad_len, vdp, call->vdp_len, reg,
                             call->reg_len, journal, call->journal_len, pc, used, call->ring, place,
-                            call->writable, call->n);
+                            call->writable, source, call->n);
+        break;
+    case CALL_TICK:
+        out.report = m->tick(image, call->image_len, pad, call->pad_len, vdp, call->vdp_len, reg,
+                             call->reg_len, journal, call->journal_len, pc, used, call->ring, place,
+                             call->writable, source, part_bytes(&s->output), call->output_len, &out.sent);
         break;
     case CALL_BACK:
         out.report = m->step_back(image, call->image_len, pad, call->pad_len, vdp, call->vdp_len, reg,
                                   call->reg_len, journal, call->journal_len, pc, used, call->ring, place,
-                                  call->writable);
+                                  call->writable, source);
         break;
     case CALL_VIEW:
         out.shown = m->view(call->pad_len, call->vdp_len, call->memory, call->at, call->len, &out.offset);
         out.offset = out.shown == 0 ? 0 : out.offset; /* an empty part has no place */
         break;
-    case CALL_WHO:
+    default:
         out.wrote = ask_who(s, call, at);
         break;
     }
@@ -284,7 +332,7 @@ static struct outcome make_call(struct side *s, const struct call *call, const s
 static bool same_report(const peer_report *a, const peer_report *b)
 {
     return a->answer == b->answer && a->pc == b->pc && a->used == b->used && a->steps == b->steps &&
-           a->stores == b->stores && a->address == b->address && a->place == b->place;
+           a->stores == b->stores && a->address == b->address && a->place == b->place && a->source == b->source;
 }
 
 static bool same_wrote(const peer_wrote *a, const peer_wrote *b)
@@ -296,7 +344,7 @@ static bool same_wrote(const peer_wrote *a, const peer_wrote *b)
 static bool same_outcome(const struct outcome *a, const struct outcome *b)
 {
     return same_report(&a->report, &b->report) && a->shown == b->shown && a->offset == b->offset &&
-           same_wrote(&a->wrote, &b->wrote);
+           same_wrote(&a->wrote, &b->wrote) && a->sent == b->sent;
 }
 
 static bool same_part(const struct part *a, const struct part *b)
@@ -307,21 +355,21 @@ static bool same_part(const struct part *a, const struct part *b)
 static bool same_sides(const struct side *a, const struct side *b)
 {
     return same_part(&a->pad, &b->pad) && same_part(&a->vdp, &b->vdp) && same_part(&a->reg, &b->reg) &&
-           same_part(&a->journal, &b->journal) && same_part(&a->image, &b->image);
+           same_part(&a->journal, &b->journal) && same_part(&a->image, &b->image) && same_part(&a->output, &b->output);
 }
 
 static bool guarded(const struct side *s)
 {
     return part_guarded(&s->image) && part_guarded(&s->pad) && part_guarded(&s->vdp) && part_guarded(&s->reg) &&
-           part_guarded(&s->journal);
+           part_guarded(&s->journal) && part_guarded(&s->output);
 }
 
 static void print_outcome(const struct machine *m, const struct outcome *o)
 {
     printf("# %s: answer %u pc %04X used %zu steps %" PRIu32 " stores %" PRIu64
-           " address %04X place %zu shown %zu offset %zu\n",
+           " address %04X place %zu source %u shown %zu offset %zu sent %zu\n",
            m->name, o->report.answer, o->report.pc, o->report.used, o->report.steps, o->report.stores,
-           o->report.address, o->report.place, o->shown, o->offset);
+           o->report.address, o->report.place, o->report.source, o->shown, o->offset, o->sent);
 }
 
 static void print_wrote(const char *name, const peer_wrote *w)
@@ -353,10 +401,10 @@ static void print_journal_difference(const struct side *a, const struct side *b)
 static void print_guards(const struct side *s)
 {
     if (!guarded(s))
-        printf("# %s wrote beside a lent part:%s%s%s%s%s\n", s->machine->name,
+        printf("# %s wrote beside a lent part:%s%s%s%s%s%s\n", s->machine->name,
                part_guarded(&s->image) ? "" : " image", part_guarded(&s->pad) ? "" : " pad",
                part_guarded(&s->vdp) ? "" : " vdp", part_guarded(&s->reg) ? "" : " reg",
-               part_guarded(&s->journal) ? "" : " journal");
+               part_guarded(&s->journal) ? "" : " journal", part_guarded(&s->output) ? "" : " output");
 }
 
 /* ---- the state before a call, as lines ---- */
@@ -399,6 +447,8 @@ static void print_call(const struct call *call)
            call->at, call->len);
     printf("# lent image %zu pad %zu vdp %zu reg %zu journal %zu, ring %u, writable groups %02X\n", call->image_len,
            call->pad_len, call->vdp_len, call->reg_len, call->journal_len, call->ring, call->writable);
+    if (call->kind == CALL_TICK)
+        printf("# output %zu\n", call->output_len);
     if (call->used_beyond)
         printf("# used lent as the journal's length plus %zu\n", call->used_beyond);
     if (call->place_past)
@@ -408,7 +458,7 @@ static void print_call(const struct call *call)
 /* Makes the calls before the failing one again, with one machine alone. */
 static struct at replay(struct side *s, const struct test_case *c, int failing)
 {
-    struct at at = {c->pc, c->used, c->place};
+    struct at at = {c->pc, c->used, c->place, c->source};
 
     side_start(s, c);
     for (int i = 0; i <= failing; i++) {
@@ -463,6 +513,7 @@ static void print_state_before(struct side *a, const struct test_case *c, int fa
     }
     printf("# image length %zu, the program's is 32768, its journal is plain, and it has no writable group\n",
            c->image_len);
+    printf("# source flag lent as %u\n", lent_source(&c->call[failing], at.source));
     print_journal(a, at.used, at.place);
     print_bytes("grom", 4, part_bytes(&a->image), c->image_len, 32768);
     print_bytes("pad", 2, part_bytes(&a->pad), a->pad.len, a->pad.len);
@@ -488,6 +539,7 @@ static void print_difference(const struct maker *m, uint64_t number, struct side
     print_part_difference("pad", &a->pad, &b->pad);
     print_part_difference("vdp", &a->vdp, &b->vdp);
     print_part_difference("reg", &a->reg, &b->reg);
+    print_part_difference("output", &a->output, &b->output);
     print_journal_difference(a, b);
     print_guards(a);
     print_guards(b);
@@ -549,7 +601,7 @@ static struct walk walk_back(struct side *w, const struct side *s, const struct 
         peer_report r = peer_step_back(part_bytes(&w->image), call->image_len, part_bytes(&w->pad), call->pad_len,
                                        part_bytes(&w->vdp), call->vdp_len, part_bytes(&w->reg), call->reg_len,
                                        journal_words(w), call->journal_len, 0, used, call->ring, place,
-                                       call->writable);
+                                       call->writable, 0);
         if (r.answer == 12 && used == 0) /* past the oldest step */
             return walk;
         if (r.answer != 0) /* none is named, whatever was found above the word at fault */
@@ -674,9 +726,39 @@ static bool refused_at_move_to_grom(const struct side *s, const struct call *cal
     return op >= 0x20 && op <= 0x25;
 }
 
-/* dropped: how many words this case's calls dropped before */
+/* What a block that was due did: bytes and a count, or a new address. */
+static void count_block(struct counts *n, const struct side *s, const struct outcome *o, uint8_t source)
+{
+    const uint8_t *list = part_bytes(&s->pad) + 0xCC;
+
+    if (o->sent == 0) {
+        *(o->report.source == source ? &n->leaps : &n->turns) += 1;
+        return;
+    }
+    n->blocks[source]++;
+    n->ends += list[2] == 0;
+    n->list_wraps += (size_t)(list[0] << 8 | list[1]) < o->sent + 2;
+}
+
+/* By its stores: none, one, or those of a block. */
+static void count_tick(struct counts *n, const struct side *s, const struct call *call, const struct outcome *o,
+                       uint8_t source)
+{
+    n->tick_answers[o->report.answer]++;
+    n->wiped += o->report.answer == 26 && call->output_len != 0;
+    if (o->report.answer != 0)
+        return;
+    n->no_list += o->report.stores == 0;
+    n->counted += o->report.stores == 1;
+    if (o->report.stores > 1)
+        count_block(n, s, o, source);
+    n->bytes += o->sent;
+    n->filled += o->sent != 0 && o->sent == call->output_len;
+}
+
+/* at: as it was lent.  dropped: how many words this case's calls dropped before */
 static void count_call(struct counts *n, const struct side *s, const struct test_case *c,
-                       const struct call *call, const struct outcome *o, size_t used, uint64_t *dropped)
+                       const struct call *call, const struct outcome *o, const struct at *at, uint64_t *dropped)
 {
     n->calls++;
     n->calls_of_kind[call->kind]++;
@@ -688,8 +770,12 @@ static void count_call(struct counts *n, const struct side *s, const struct test
     }
     n->answers[o->report.answer]++;
     if (call->ring)
-        count_ring(n, call, &o->report, used, dropped);
+        count_ring(n, call, &o->report, at->used, dropped);
+    if (call->kind == CALL_TICK)
+        count_tick(n, s, call, o, at->source);
     if (call->kind == CALL_BACK)
+        n->flags_back += o->report.source != at->source;
+    if (call->kind == CALL_TICK || call->kind == CALL_BACK)
         return;
     if (call->kind == CALL_STEP)
         n->step_answers[o->report.answer]++;
@@ -707,7 +793,8 @@ static bool opcode_is_done(int op)
         return op != 0x03 && op != 0x0B;
     if (op >= 0x30 && op <= 0x3F)
         return (op & 6) != 6;
-    return (op >= 0x20 && op <= 0x25) || (op >= 0x40 && op <= 0x97) || (op >= 0xA0 && op <= 0xEB && (op & 0xFE) != 0xC2) || op == 0xED;
+    return (op >= 0x20 && op <= 0x25) || (op >= 0x40 && op <= 0x97) || (op >= 0xA0 && op <= 0xEB && (op & 0xFE) != 0xC2) || op == 0xED ||
+           (op >= 0xF4 && op <= 0xF7);
 }
 
 static void print_ring_counts(const struct counts *n)
@@ -741,13 +828,28 @@ static void print_who_counts(const struct counts *n)
            n->none_kept, n->none_empty, n->none_round);
 }
 
+static void print_tick_counts(const struct counts *n)
+{
+    printf("\nticks: %" PRIu64 ", answers", n->calls_of_kind[CALL_TICK]);
+    for (int i = 0; i < 256; i++)
+        if (n->tick_answers[i])
+            printf(" %d:%" PRIu64, i, n->tick_answers[i]);
+    printf("; %" PRIu64 " with no list, %" PRIu64 " that counted down, %" PRIu64 " blocks in GROM, %" PRIu64
+           " in VDP RAM, %" PRIu64 " new addresses, %" PRIu64 " changes of source, %" PRIu64 " ends\n",
+           n->no_list, n->counted, n->blocks[0], n->blocks[1], n->leaps, n->turns, n->ends);
+    printf("ticks: %" PRIu64 " bytes sent, %" PRIu64 " blocks past >FFFF, %" PRIu64 " outputs filled to the last byte, %" PRIu64
+           " refused with bytes written; %" PRIu64 " step-backs turned the source flag",
+           n->bytes, n->list_wraps, n->filled, n->wiped, n->flags_back);
+}
+
 static void print_counts(const struct counts *n)
 {
     int never = 0, wrong = 0;
-    printf("cases %" PRIu64 ", calls %" PRIu64 " (step %" PRIu64 ", run %" PRIu64 ", step-back %" PRIu64
+    printf("cases %" PRIu64 ", calls %" PRIu64 " (step %" PRIu64 ", run %" PRIu64 ", tick %" PRIu64 ", step-back %" PRIu64
            ", view %" PRIu64 ": %" PRIu64 " shown, %" PRIu64 " empty, who wrote a cell %" PRIu64 ")\n",
-           n->cases, n->calls, n->calls_of_kind[CALL_STEP], n->calls_of_kind[CALL_RUN], n->calls_of_kind[CALL_BACK],
-           n->calls_of_kind[CALL_VIEW], n->shown_views, n->empty_views, n->calls_of_kind[CALL_WHO]);
+           n->cases, n->calls, n->calls_of_kind[CALL_STEP], n->calls_of_kind[CALL_RUN], n->calls_of_kind[CALL_TICK],
+           n->calls_of_kind[CALL_BACK], n->calls_of_kind[CALL_VIEW], n->shown_views, n->empty_views,
+           n->calls_of_kind[CALL_WHO]);
     printf("steps tried %" PRIu64 ", accepted %" PRIu64 " (%.1f%%); single steps accepted %.1f%%\n", n->tries,
            n->accepted, n->tries ? 100.0 * (double)n->accepted / (double)n->tries : 0,
            n->calls_of_kind[CALL_STEP] ? 100.0 * (double)n->step_answers[0] / (double)n->calls_of_kind[CALL_STEP] : 0);
@@ -770,6 +872,7 @@ static void print_counts(const struct counts *n)
             printf(" %d:%" PRIu64, i, n->grom_refusals[i]);
     print_ring_counts(n);
     print_who_counts(n);
+    print_tick_counts(n);
     printf("\nopcodes never accepted: %d\nopcodes accepted that must not be: %d\n", never, wrong);
 }
 
@@ -779,7 +882,7 @@ static void print_counts(const struct counts *n)
 static bool compare_case(const struct maker *m, uint64_t number, struct side *a, struct side *b, struct side *w,
                          const struct test_case *c, struct counts *n)
 {
-    struct at at = {c->pc, c->used, c->place};
+    struct at at = {c->pc, c->used, c->place, c->source};
     uint64_t dropped = 0;
 
     side_start(a, c);
@@ -796,7 +899,7 @@ static bool compare_case(const struct maker *m, uint64_t number, struct side *a,
             print_difference(m, number, a, b, c, i, &x, &y);
             return false;
         }
-        count_call(n, a, c, call, &x, at.used, &dropped);
+        count_call(n, a, c, call, &x, &at, &dropped);
         hand_on(call, &x.report, &at);
     }
     n->cases++;

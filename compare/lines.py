@@ -101,10 +101,19 @@ def coincidence(r):
     return [0xED] + operand(r) + operand(r) + [r.choice([0, 0, 1, 2, 5, 7, 8])] + word(table)
 
 
+def sound(r):
+    """I/O, which starts a list if its source is 0 or 1; as a cell, a word of the pad's plan."""
+    op = r.randrange(0xF4, 0xF8)
+    source = word(r.choice([0, 0, 1, 1, 2, 0xFFFF])) if op & 2 else [0x10 + 2 * r.randrange(8)]
+    return [op] + operand(r) + (source[1:] if op & 3 == 2 else source)
+
+
 def instruction(r, at):
     kind = r.random()
     if kind < 0.03:
         return coincidence(r)
+    if kind < 0.06:
+        return sound(r)
     if kind < 0.35:
         op = r.randrange(0xA0, 0xEC)
         code = [op] + operand(r)

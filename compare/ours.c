@@ -8,7 +8,8 @@ static peer_report report_of(uint8_t answer, const uint64_t out[ARGOLYTHE_OUTS])
 {
     return (peer_report){answer, (uint16_t)out[ARGOLYTHE_OUT_PC], (size_t)out[ARGOLYTHE_OUT_USED],
                          (uint32_t)out[ARGOLYTHE_OUT_STEPS], out[ARGOLYTHE_OUT_STORES],
-                         (uint16_t)out[ARGOLYTHE_OUT_ADDRESS], (size_t)out[ARGOLYTHE_OUT_PLACE]};
+                         (uint16_t)out[ARGOLYTHE_OUT_ADDRESS], (size_t)out[ARGOLYTHE_OUT_PLACE],
+                         (uint8_t)out[ARGOLYTHE_OUT_SOURCE]};
 }
 
 /* Numbers that no call may leave standing, so that one that says nothing is seen. */
@@ -22,12 +23,12 @@ static void spoil(uint64_t *out, int count)
 static peer_report step(uint8_t *image, size_t image_len, uint8_t *pad, size_t pad_len,
                         uint8_t *vdp, size_t vdp_len, uint8_t *reg, size_t reg_len,
                         uint32_t *journal, size_t journal_len,
-                        uint16_t pc, size_t used, uint8_t ring, size_t place, uint8_t writable)
+                        uint16_t pc, size_t used, uint8_t ring, size_t place, uint8_t writable, uint8_t source)
 {
     uint64_t out[ARGOLYTHE_OUTS];
     spoil(out, ARGOLYTHE_OUTS);
     uint8_t answer = argolythe_step(image, image_len, pad, pad_len, vdp, vdp_len, reg, reg_len,
-                                    journal, journal_len, pc, used, ring, place, writable, out);
+                                    journal, journal_len, pc, used, ring, place, writable, source, out);
     return report_of(answer, out);
 }
 
@@ -35,12 +36,29 @@ static peer_report step(uint8_t *image, size_t image_len, uint8_t *pad, size_t p
 static peer_report run(uint8_t *image, size_t image_len, uint8_t *pad, size_t pad_len,
                        uint8_t *vdp, size_t vdp_len, uint8_t *reg, size_t reg_len,
                        uint32_t *journal, size_t journal_len,
-                       uint16_t pc, size_t used, uint8_t ring, size_t place, uint8_t writable, uint32_t n)
+                       uint16_t pc, size_t used, uint8_t ring, size_t place, uint8_t writable, uint8_t source,
+                       uint32_t n)
 {
     uint64_t out[ARGOLYTHE_OUTS];
     spoil(out, ARGOLYTHE_OUTS);
     uint8_t answer = argolythe_run(image, image_len, pad, pad_len, vdp, vdp_len, reg, reg_len,
-                                   journal, journal_len, pc, used, ring, place, writable, n, out);
+                                   journal, journal_len, pc, used, ring, place, writable, source, n, out);
+    return report_of(answer, out);
+}
+
+/* A tick, as the harness asks for it. */
+static peer_report tick(uint8_t *image, size_t image_len, uint8_t *pad, size_t pad_len,
+                        uint8_t *vdp, size_t vdp_len, uint8_t *reg, size_t reg_len,
+                        uint32_t *journal, size_t journal_len,
+                        uint16_t pc, size_t used, uint8_t ring, size_t place, uint8_t writable, uint8_t source,
+                        uint8_t *output, size_t output_len, size_t *sent)
+{
+    uint64_t out[ARGOLYTHE_OUTS];
+    spoil(out, ARGOLYTHE_OUTS);
+    *sent = (size_t)-1;
+    uint8_t answer = argolythe_tick(image, image_len, pad, pad_len, vdp, vdp_len, reg, reg_len,
+                                    journal, journal_len, pc, used, ring, place, writable, source,
+                                    output, output_len, sent, out);
     return report_of(answer, out);
 }
 
@@ -48,12 +66,12 @@ static peer_report run(uint8_t *image, size_t image_len, uint8_t *pad, size_t pa
 static peer_report step_back(uint8_t *image, size_t image_len, uint8_t *pad, size_t pad_len,
                              uint8_t *vdp, size_t vdp_len, uint8_t *reg, size_t reg_len,
                              uint32_t *journal, size_t journal_len,
-                             uint16_t pc, size_t used, uint8_t ring, size_t place, uint8_t writable)
+                             uint16_t pc, size_t used, uint8_t ring, size_t place, uint8_t writable, uint8_t source)
 {
     uint64_t out[ARGOLYTHE_OUTS];
     spoil(out, ARGOLYTHE_OUTS);
     uint8_t answer = argolythe_step_back(image, image_len, pad, pad_len, vdp, vdp_len, reg, reg_len,
-                                         journal, journal_len, pc, used, ring, place, writable, out);
+                                         journal, journal_len, pc, used, ring, place, writable, source, out);
     out[ARGOLYTHE_OUT_STEPS] -= answer == ARGOLYTHE_DONE ? 1 : 0;
     return report_of(answer, out);
 }
@@ -80,4 +98,4 @@ static peer_wrote who_wrote(const uint8_t *image, size_t image_len, const uint8_
                         out[ARGOLYTHE_WHO_BEFORE], out[ARGOLYTHE_WHO_LEFT]};
 }
 
-const struct machine other_machine = {"argolythe", step, run, step_back, view, who_wrote};
+const struct machine other_machine = {"argolythe", step, run, tick, step_back, view, who_wrote};

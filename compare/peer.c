@@ -26,6 +26,8 @@ enum {
     ROW = 0x7E,
     COLUMN = 0x7F,
     SEED = 0xC0,
+    LIST_ADDRESS = 0xCC, /* 02, item 10 */
+    LIST_COUNT = 0xCE,   /* likewise */
     REGISTER_1_COPY = 0xD4
 };
 
@@ -45,7 +47,8 @@ enum {
     NO_RECORD = 12,
     BAD_REGISTER = 13,
     TOO_COARSE = 23, /* 02, item 3 */
-    READ_ONLY = 24   /* 02, item 9 */
+    READ_ONLY = 24,  /* 02, item 9 */
+    OUTPUT_FULL = 26 /* 02, item 10 */
 };
 
 /* "Status": the five flags, and the parity of 02, item 6 */
@@ -58,7 +61,8 @@ enum { HIGH = 0x80, GREATER = 0x40, CONDITION = 0x20, CARRY = 0x10, OVERFLOW = 0
 #define KIND_MARK 3u
 #define KIND_GROM 4u
 #define KIND_SHIFT 29
-#define MARK_SURPLUS 0x1FFF0000u /* between a mark's kind and its pc */
+#define MARK_SOURCE 0x00010000u  /* 02, item 10: "The source flag .. is bit 16 of the mark word" */
+#define MARK_SURPLUS 0x1FFE0000u /* between a mark's kind and its flag */
 
 #define FORMAT_CODES 16384u
 
@@ -84,6 +88,7 @@ struct bench {
     size_t older; /* of these, how many aren't the current step's own */
     uint32_t image_len;
     uint16_t pc;
+    uint32_t source; /* of the sound list, as a mark has it: MARK_SOURCE for VDP RAM, 0 for GROM */
     uint8_t writable;
     uint8_t why;    /* set when a helper returns false */
     uint16_t where; /* set with it */
@@ -981,6 +986,112 @@ static bool coincide(struct bench *b)
     return store_condition(b, set) && pop_pc(b); /* "popped after that store" */
 }
 
+/* ---- sound lists: 02, item 10 ---- */
+
+/* "goes to >CC, then 1 to >CE": address and count, which a tick stores likewise */
+static inline bool store_list(struct bench *b, uint32_t address, uint32_t count)
+{
+    return store_cpu(b, LIST_ADDRESS, address >> 8 & 0xFF) &&
+           store_cpu(b, LIST_ADDRESS + 1, address & 0xFF) &&
+           store_cpu(b, LIST_COUNT, count);
+}
+
+/* "start a list when the source is 0 (GROM) or 1 (VDP RAM)" */
+static bool start_list(struct bench *b, uint32_t place, uint32_t function)
+{
+    /* "Other functions, or a VDP destination, answer 3 after the mark and the operands." */
+    if (function > 1 || space_of(place) == VDP)
+        return refuse(b, NEEDS_HOST);
+    uint32_t address = pad_word(b, place);
+    if (address == REFUSED || !store_list(b, address, 1))
+        return false;
+    b->source = function == 1 ? MARK_SOURCE : 0; /* past every refusal, so no refused step has changed it */
+    return true;
+}
+
+/* "a lent output", of which so many bytes are sent */
+struct output {
+    uint8_t *bytes;
+    size_t len;
+    size_t sent;
+};
+
+/* The next byte of a list, which goes on after it: "List addresses count in 16 bits." */
+static inline uint32_t list_byte(struct bench *b, struct end *list)
+{
+    return read_byte(b, list->space, list->at++ & 0xFFFF);
+}
+
+/* "send the next block's bytes to a lent output" */
+static bool send_bytes(struct bench *b, struct end *list, uint32_t size, struct output *out)
+{
+    for (; size > 0; size--) {
+        uint32_t byte = list_byte(b, list);
+        if (byte == REFUSED)
+            return false;
+        if (out->sent == out->len)
+            return refuse(b, OUTPUT_FULL); /* "after 6 or 5 for the byte concerned" */
+        out->bytes[out->sent++] = (uint8_t)byte;
+    }
+    return true;
+}
+
+/* "take a size of 0 as a new address and >FF as a change of source with a new address";
+   both bytes of it are read where the size was */
+static bool go_on_elsewhere(struct bench *b, struct end *list, bool other)
+{
+    uint32_t high = list_byte(b, list);
+    uint32_t low = high == REFUSED ? REFUSED : list_byte(b, list);
+    if (low == REFUSED)
+        return false;
+    if (other)
+        list->space = list->space == VDP ? GROM : VDP;
+    list->at = high << 8 | low;
+    return true;
+}
+
+/* One block of a list, after which the list stands at the next one.  *count: what >CE gets. */
+static bool play_block(struct bench *b, struct end *list, struct output *out, uint32_t *count)
+{
+    uint32_t size = list_byte(b, list);
+
+    if (size == REFUSED)
+        return false;
+    if (size == 0 || size == 0xFF) {
+        *count = 1; /* "either ends the tick with 1 in >CE" */
+        return go_on_elsewhere(b, list, size == 0xFF);
+    }
+    if (!send_bytes(b, list, size, out))
+        return false;
+    *count = list_byte(b, list);
+    return *count != REFUSED;
+}
+
+/* "A due GROM block is read between a push and a pop of pc." */
+static bool due_block(struct bench *b, struct output *out)
+{
+    bool in_grom = b->source == 0; /* where the tick began, also if the block changes the source */
+    struct end list = {in_grom ? GROM : VDP, (uint32_t)b->pad[LIST_ADDRESS] << 8 | b->pad[LIST_ADDRESS + 1]};
+    uint32_t count;
+
+    if (in_grom && !push_pc(b))
+        return false;
+    if (!play_block(b, &list, out, &count) || !store_list(b, list.at, count) || (in_grom && !pop_pc(b)))
+        return false;
+    b->source = list.space == VDP ? MARK_SOURCE : 0; /* past every refusal here too */
+    return true;
+}
+
+/* "count down", and at 0 the block is due; "end on a count of 0": then there is nothing to count */
+static bool count_down(struct bench *b, struct output *out)
+{
+    uint32_t count = b->pad[LIST_COUNT];
+
+    if (count == 0)
+        return true;
+    return store_cpu(b, LIST_COUNT, count - 1) && (count > 1 || due_block(b, out));
+}
+
 /* ---- one step ---- */
 
 /* >80 to >97: one operand; "From >80 on, bit 0 means word." */
@@ -1021,7 +1132,7 @@ static inline bool one_operand(struct bench *b, uint32_t op)
     }
 }
 
-/* >A0 to >EB: "Two, destination first, bit 1 meaning immediate source" */
+/* >A0 to >EB, and >F4 to >F7: "Two, destination first, bit 1 meaning immediate source" */
 static inline bool two_operands(struct bench *b, uint32_t op)
 {
     uint32_t width = 1 + (op & 1);
@@ -1081,6 +1192,8 @@ static inline bool two_operands(struct bench *b, uint32_t op)
         return store_result(b, p, width, left << shift_count(right));
     case 0xE4: /* SRL */
         return store_result(b, p, width, shift_right_logical(left, shift_count(right), width));
+    case 0xF4: /* I/O; 02, item 10: "two operands in 01's way" */
+        return start_list(b, p, right);
     default: /* SRC */
         return store_result(b, p, width, rotate_right(left, shift_count(right), width));
     }
@@ -1088,7 +1201,7 @@ static inline bool two_operands(struct bench *b, uint32_t op)
 
 static inline bool execute(struct bench *b, uint32_t op)
 {
-    if (op >= 0xEC)
+    if (op == 0xED)
         return coincide(b);
     if (op >= 0xA0)
         return two_operands(b, op);
@@ -1132,7 +1245,7 @@ static inline bool execute(struct bench *b, uint32_t op)
 static inline uint8_t opcode_answer(uint32_t op)
 {
     if (op >= 0xF4 && op <= 0xF7)
-        return NEEDS_HOST; /* "needs the host: >03, >0F, >F4 to >F7" */
+        return DONE; /* 02, item 10: 3 only "after the mark and the operands" */
     if (op >= 0xEC)
         return op == 0xED ? DONE : NO_INSTRUCTION; /* "Other opcodes >EC to >EF still answer 2." */
     if (op >= 0xA0)
@@ -1146,7 +1259,7 @@ static inline uint8_t opcode_answer(uint32_t op)
     if (op >= 0x20)
         return op <= 0x25 ? DONE : NO_INSTRUCTION; /* 02, item 9: ">26 to >2F still answer 2" */
     if (op == 0x03 || op == 0x0F)
-        return NEEDS_HOST;
+        return NEEDS_HOST; /* "needs the host: >03, >0F, .." */
     if (op == 0x0B)
         return ENDED; /* "opcode >0B (EXIT); nothing changes, pc stays on it" */
     return op <= 0x0D ? DONE : NO_INSTRUCTION;
@@ -1173,6 +1286,12 @@ static inline void take_off(struct bench *b, size_t count)
     }
 }
 
+/* "A step takes a mark word first": it "carries the old pc in its low 16 bits", and above them the old source flag. */
+static inline bool lay_mark(struct bench *b)
+{
+    return lay(b, KIND_MARK << KIND_SHIFT | b->source | b->pc);
+}
+
 /* Everything of a step that moves pc or stores; put back by its caller if refused. */
 static inline bool attempt(struct bench *b)
 {
@@ -1184,11 +1303,18 @@ static inline bool attempt(struct bench *b)
     uint8_t answer = opcode_answer(op);
     if (answer != DONE)
         return refuse(b, answer);
-    /* "A step takes a mark word first, for every opcode that 2, 3 and 1 don't stop." */
-    if (!lay(b, KIND_MARK << KIND_SHIFT | pc)) /* "carries the old pc in its low 16 bits" */
+    if (!lay_mark(b)) /* "for every opcode that 2, 3 and 1 don't stop" */
         return false;
     b->pc = after(pc);
     return execute(b, op);
+}
+
+/* "A refused step puts all back; the journal words it had taken become 0."
+   02, item 5: "a refused step, 10 included, has still lost them", item 9: "returns the image too". */
+static inline void put_back(struct bench *b, uint16_t pc)
+{
+    take_off(b, b->used - b->older);
+    b->pc = pc;
 }
 
 /* False if the step was refused: then why and where are set. */
@@ -1199,10 +1325,21 @@ static inline bool step(struct bench *b)
     b->older = b->used;
     if (attempt(b))
         return true;
-    /* "A refused step puts all back; the journal words it had taken become 0."
-       02, item 5: "a refused step, 10 included, has still lost them", item 9: "returns the image too". */
-    take_off(b, b->used - b->older);
-    b->pc = pc;
+    put_back(b, pc);
+    return false;
+}
+
+/* "A tick is a step": its mark first, also where nothing is stored.  False if it was refused. */
+static bool tick(struct bench *b, struct output *out)
+{
+    uint16_t pc = b->pc;
+
+    b->older = b->used;
+    if (lay_mark(b) && count_down(b, out))
+        return true;
+    put_back(b, pc);
+    while (out->sent > 0) /* "a refused tick zeroes what it wrote there" */
+        out->bytes[--out->sent] = 0;
     return false;
 }
 
@@ -1231,7 +1368,7 @@ static bool bad_lengths(size_t image_len, size_t pad_len, size_t vdp_len, size_t
 /* The machine that a call is lent, with nothing refused. */
 static struct bench lent(uint8_t *image, size_t image_len, uint8_t *pad, uint8_t *vdp, uint8_t *reg,
                          uint32_t *journal, size_t journal_len,
-                         uint16_t pc, size_t used, uint8_t ring, size_t place, uint8_t writable)
+                         uint16_t pc, size_t used, uint8_t ring, size_t place, uint8_t writable, uint8_t source)
 {
     return (struct bench){
         .image = image,
@@ -1245,6 +1382,7 @@ static struct bench lent(uint8_t *image, size_t image_len, uint8_t *pad, uint8_t
         .used = used,
         .image_len = (uint32_t)image_len,
         .pc = pc,
+        .source = source ? MARK_SOURCE : 0,
         .writable = writable,
         .why = DONE,
         .where = 0,
@@ -1256,20 +1394,21 @@ peer_report peer_run(uint8_t *image, size_t image_len,
                      uint8_t *vdp, size_t vdp_len,
                      uint8_t *reg, size_t reg_len,
                      uint32_t *journal, size_t journal_len,
-                     uint16_t pc, size_t used, uint8_t ring, size_t place, uint8_t writable, uint32_t n)
+                     uint16_t pc, size_t used, uint8_t ring, size_t place, uint8_t writable, uint8_t source,
+                     uint32_t n)
 {
     /* "Answer 11 is tested first and touches nothing." */
     if (bad_lengths(image_len, pad_len, vdp_len, reg_len, journal_len, used) || bad_place(journal_len, ring, place))
-        return (peer_report){BAD_LENGTH, pc, used, 0, 0, 0, place};
+        return (peer_report){BAD_LENGTH, pc, used, 0, 0, 0, place, source != 0};
 
-    struct bench b = lent(image, image_len, pad, vdp, reg, journal, journal_len, pc, used, ring, place, writable);
+    struct bench b = lent(image, image_len, pad, vdp, reg, journal, journal_len, pc, used, ring, place, writable, source);
     uint32_t steps = 0;
     uint64_t stores = 0;
 
     /* "A run makes up to n steps, stops at the first answer other than 0" */
     for (; steps < n && step(&b); steps++)
         stores += b.used - b.older - 1; /* each step done took one mark; every other word is a store */
-    return (peer_report){b.why, b.pc, b.used, steps, stores, b.where, ring ? b.place : place};
+    return (peer_report){b.why, b.pc, b.used, steps, stores, b.where, ring ? b.place : place, b.source != 0};
 }
 
 peer_report peer_step(uint8_t *image, size_t image_len,
@@ -1277,10 +1416,30 @@ peer_report peer_step(uint8_t *image, size_t image_len,
                       uint8_t *vdp, size_t vdp_len,
                       uint8_t *reg, size_t reg_len,
                       uint32_t *journal, size_t journal_len,
-                      uint16_t pc, size_t used, uint8_t ring, size_t place, uint8_t writable)
+                      uint16_t pc, size_t used, uint8_t ring, size_t place, uint8_t writable, uint8_t source)
 {
     return peer_run(image, image_len, pad, pad_len, vdp, vdp_len, reg, reg_len,
-                    journal, journal_len, pc, used, ring, place, writable, 1);
+                    journal, journal_len, pc, used, ring, place, writable, source, 1);
+}
+
+peer_report peer_tick(uint8_t *image, size_t image_len,
+                      uint8_t *pad, size_t pad_len,
+                      uint8_t *vdp, size_t vdp_len,
+                      uint8_t *reg, size_t reg_len,
+                      uint32_t *journal, size_t journal_len,
+                      uint16_t pc, size_t used, uint8_t ring, size_t place, uint8_t writable, uint8_t source,
+                      uint8_t *output, size_t output_len, size_t *sent)
+{
+    *sent = 0;
+    if (bad_lengths(image_len, pad_len, vdp_len, reg_len, journal_len, used) || bad_place(journal_len, ring, place))
+        return (peer_report){BAD_LENGTH, pc, used, 0, 0, 0, place, source != 0};
+
+    struct bench b = lent(image, image_len, pad, vdp, reg, journal, journal_len, pc, used, ring, place, writable, source);
+    struct output out = {output, output_len, 0};
+    bool done = tick(&b, &out);
+    *sent = out.sent;
+    return (peer_report){b.why, b.pc, b.used, done ? 1 : 0, done ? b.used - b.older - 1 : 0, b.where,
+                         ring ? b.place : place, b.source != 0};
 }
 
 /* "names no cell (pad above >DF, register above 7, VDP above >3FFF) or has a surplus bit";
@@ -1322,20 +1481,20 @@ peer_report peer_step_back(uint8_t *image, size_t image_len,
                            uint8_t *vdp, size_t vdp_len,
                            uint8_t *reg, size_t reg_len,
                            uint32_t *journal, size_t journal_len,
-                           uint16_t pc, size_t used, uint8_t ring, size_t place, uint8_t writable)
+                           uint16_t pc, size_t used, uint8_t ring, size_t place, uint8_t writable, uint8_t source)
 {
     if (bad_lengths(image_len, pad_len, vdp_len, reg_len, journal_len, used) || bad_place(journal_len, ring, place))
-        return (peer_report){BAD_LENGTH, pc, used, 0, 0, 0, place};
+        return (peer_report){BAD_LENGTH, pc, used, 0, 0, 0, place, source != 0};
 
-    struct bench b = lent(image, image_len, pad, vdp, reg, journal, journal_len, pc, used, ring, place, writable);
+    struct bench b = lent(image, image_len, pad, vdp, reg, journal, journal_len, pc, used, ring, place, writable, source);
     /* "takes words from the top down to the newest mark" */
     size_t count = newest_record(&b);
     if (count == 0)
-        return (peer_report){NO_RECORD, pc, used, 0, 0, 0, place};
-    /* "restores each, sets pc, zeroes them" */
-    uint16_t old_pc = (uint16_t)journal[slot(&b, used - count)];
+        return (peer_report){NO_RECORD, pc, used, 0, 0, 0, place, source != 0};
+    /* "restores each, sets pc, zeroes them"; 02, item 10: "step-back sets it with pc" */
+    uint32_t mark = journal[slot(&b, used - count)];
     take_off(&b, count);
-    return (peer_report){DONE, old_pc, b.used, 0, 0, 0, place};
+    return (peer_report){DONE, (uint16_t)mark, b.used, 0, 0, 0, place, (mark & MARK_SOURCE) != 0};
 }
 
 size_t peer_view(size_t pad_len, size_t vdp_len, int memory,

@@ -13,7 +13,7 @@ enum {
     JOURNAL_LEN = 16384,
     LINE_MAX_LEN = 65546, /* "grom", an address and 32,768 bytes */
     NO_RING = 0,          /* no line asks for one: a plain journal, whose place is not looked at */
-    NO_GROUPS = 0         /* nor names a writable group */
+    NO_GROUPS = 0         /* nor names a writable group, nor asks for a tick */
 };
 
 struct memories {
@@ -29,6 +29,7 @@ struct bench {
     uint32_t journal[JOURNAL_LEN];
     size_t used;
     uint16_t pc;
+    uint8_t source; /* which an I/O may set, though no line shows it */
 };
 
 struct line {
@@ -155,9 +156,11 @@ static void run(struct bench *s, uint32_t n)
 {
     s->before = s->now;
     peer_report r = peer_run(s->image, IMAGE_LEN, s->now.pad, PAD_LEN, s->now.vdp, VDP_LEN,
-                             s->now.reg, REG_LEN, s->journal, JOURNAL_LEN, s->pc, s->used, NO_RING, 0, NO_GROUPS, n);
+                             s->now.reg, REG_LEN, s->journal, JOURNAL_LEN, s->pc, s->used, NO_RING, 0, NO_GROUPS,
+                             s->source, n);
     s->pc = r.pc;
     s->used = r.used;
+    s->source = r.source;
     printf("answer\t%u\t%lu\t%llu\t%04X\n", (unsigned)r.answer, (unsigned long)r.steps,
            (unsigned long long)r.stores, (unsigned)r.address);
     printf("pc\t%04X\n", (unsigned)r.pc);

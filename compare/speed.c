@@ -18,6 +18,7 @@ enum {
     JOURNAL_LEN = ARGOLYTHE_JOURNAL_MAX,
     RING_LEN = 4096, /* words: a run in a ring drops steps nearly all the time */
     WRITABLE = 0x02, /* the group at >2000, which has no code */
+    OUTPUT_LEN = 8,  /* of a tick: more than a block has here */
     ROUNDS = 3,
     SLICES = 8 /* the two take turns so often in a round */
 };
@@ -25,15 +26,15 @@ enum {
 #define SLICE_NS (300e6 / SLICES)
 
 /* What is timed of a repeat: one run of n steps; one in a ring; n single steps; one run that is refused and put back;
-   n step-backs. */
-enum kind { RUN, RING, STEPS, REFUSED, BACKS };
+   n step-backs; n ticks of the sound list at GROM 0. */
+enum kind { RUN, RING, STEPS, REFUSED, BACKS, TICKS };
 
 struct work {
     const char *name;
     enum kind kind;
     uint32_t n;
     uint32_t stores_each; /* of REFUSED: those put back, which no report counts */
-    const char *code;     /* at GROM 0, in hex */
+    const char *code;     /* at GROM 0, in hex; of TICKS: the list */
 };
 
 /* The pad has index words 2 and >100 at >10 and >12, VDP addresses at >20 and >22, pad offsets at >30 and >31; see prepare. */
@@ -102,6 +103,8 @@ static const struct work works[] = {
      "A04041" "A54244" "B2407F" "BB441234" "B64101" "E24603" "DD4A4C" "BC4641" "C44041" "D44046" "9041" "9144"
      "C14E50" "050000"},
     {"ALL, in a ring", RING, 2000, 0, "0720" "050000"},
+    /* two bytes and a count of 1, four bytes and a count of 1, back to 0 */
+    {"ticks, a list in GROM", TICKS, 50000, 0, "02E4F201" "048C1A90B301" "000000"},
 };
 
 /* What a side is lent, and where it stands. */
@@ -112,6 +115,7 @@ struct side {
     uint8_t reg[REG_LEN];
     uint32_t *journal;
     uint16_t pc;
+    uint8_t source; /* of the sound list */
 };
 
 /* What a side did: `sum` is made of every number of every report, `refused` counts the answers other than 0. */
@@ -163,7 +167,10 @@ static void prepare(struct side *s, const char *code)
     s->pad[0x72] = 0x9F;
     s->pad[0x73] = 0x7E;
     set_word(s, 0x7E, 0);
+    set_word(s, 0xCC, 0); /* a sound list, which is due at the first tick */
+    s->pad[0xCE] = 1;
     s->pc = 0;
+    s->source = 0;
 }
 
 /* ---- the work, by the one and by the other ---- */
@@ -178,19 +185,28 @@ static double now_ns(void)
 
 /* Every number of a report goes into the sum. */
 static inline void count(struct tally *t, uint64_t answer, uint64_t pc, uint64_t used, uint64_t steps, uint64_t stores,
-                         uint64_t address, uint64_t place)
+                         uint64_t address, uint64_t place, uint64_t source)
 {
     t->steps += steps;
     t->stores += stores;
     t->refused += answer != 0;
-    t->sum = ((t->sum * 31 + answer) * 31 + place) * 31 + (address << 48 ^ pc << 32 ^ used << 20 ^ steps << 8 ^ stores);
+    t->sum = ((t->sum * 31 + answer) * 31 + place) * 31 + source;
+    t->sum = t->sum * 31 + (address << 48 ^ pc << 32 ^ used << 20 ^ steps << 8 ^ stores);
 }
 
 /* What the archive left in `out`, likewise. */
 static inline void count_out(struct tally *t, uint64_t answer, const uint64_t *out)
 {
     count(t, answer, out[ARGOLYTHE_OUT_PC], out[ARGOLYTHE_OUT_USED], out[ARGOLYTHE_OUT_STEPS], out[ARGOLYTHE_OUT_STORES],
-          out[ARGOLYTHE_OUT_ADDRESS], out[ARGOLYTHE_OUT_PLACE]);
+          out[ARGOLYTHE_OUT_ADDRESS], out[ARGOLYTHE_OUT_PLACE], out[ARGOLYTHE_OUT_SOURCE]);
+}
+
+/* The bytes that a tick sent, likewise. */
+static inline void count_sent(struct tally *t, const uint8_t output[OUTPUT_LEN], size_t sent)
+{
+    t->sum = t->sum * 31 + sent;
+    for (size_t i = 0; i < sent && i < OUTPUT_LEN; i++)
+        t->sum = t->sum * 31 + output[i];
 }
 
 /* One run of the peer's, from an empty journal. */
@@ -198,9 +214,10 @@ static size_t peer_runs(const struct work *w, struct side *s, struct tally *t)
 {
     bool ring = w->kind == RING;
     peer_report r = peer_run(s->image, IMAGE_LEN, s->pad, PAD_LEN, s->vdp, VDP_LEN, s->reg, REG_LEN, s->journal,
-                             ring ? RING_LEN : JOURNAL_LEN, s->pc, 0, ring, 0, WRITABLE, w->n);
+                             ring ? RING_LEN : JOURNAL_LEN, s->pc, 0, ring, 0, WRITABLE, s->source, w->n);
     s->pc = r.pc;
-    count(t, r.answer, r.pc, r.used, r.steps, r.stores, r.address, r.place);
+    s->source = r.source;
+    count(t, r.answer, r.pc, r.used, r.steps, r.stores, r.address, r.place, r.source);
     return r.used;
 }
 
@@ -210,8 +227,9 @@ static size_t our_runs(const struct work *w, struct side *s, struct tally *t)
     bool ring = w->kind == RING;
     uint64_t out[ARGOLYTHE_OUTS];
     uint8_t answer = argolythe_run(s->image, IMAGE_LEN, s->pad, PAD_LEN, s->vdp, VDP_LEN, s->reg, REG_LEN, s->journal,
-                                   ring ? RING_LEN : JOURNAL_LEN, s->pc, 0, ring, 0, WRITABLE, w->n, out);
+                                   ring ? RING_LEN : JOURNAL_LEN, s->pc, 0, ring, 0, WRITABLE, s->source, w->n, out);
     s->pc = (uint16_t)out[ARGOLYTHE_OUT_PC];
+    s->source = (uint8_t)out[ARGOLYTHE_OUT_SOURCE];
     count_out(t, answer, out);
     return (size_t)out[ARGOLYTHE_OUT_USED];
 }
@@ -222,10 +240,11 @@ static void peer_steps(struct side *s, uint32_t n, struct tally *t)
     size_t used = 0;
     for (uint32_t i = 0; i < n; i++) {
         peer_report r = peer_step(s->image, IMAGE_LEN, s->pad, PAD_LEN, s->vdp, VDP_LEN, s->reg, REG_LEN, s->journal,
-                                  JOURNAL_LEN, s->pc, used, 0, 0, WRITABLE);
+                                  JOURNAL_LEN, s->pc, used, 0, 0, WRITABLE, s->source);
         s->pc = r.pc;
+        s->source = r.source;
         used = r.used;
-        count(t, r.answer, r.pc, r.used, r.steps, r.stores, r.address, r.place);
+        count(t, r.answer, r.pc, r.used, r.steps, r.stores, r.address, r.place, r.source);
     }
 }
 
@@ -236,8 +255,9 @@ static void our_steps(struct side *s, uint32_t n, struct tally *t)
     uint64_t out[ARGOLYTHE_OUTS];
     for (uint32_t i = 0; i < n; i++) {
         uint8_t answer = argolythe_step(s->image, IMAGE_LEN, s->pad, PAD_LEN, s->vdp, VDP_LEN, s->reg, REG_LEN,
-                                        s->journal, JOURNAL_LEN, s->pc, used, 0, 0, WRITABLE, out);
+                                        s->journal, JOURNAL_LEN, s->pc, used, 0, 0, WRITABLE, s->source, out);
         s->pc = (uint16_t)out[ARGOLYTHE_OUT_PC];
+        s->source = (uint8_t)out[ARGOLYTHE_OUT_SOURCE];
         used = (size_t)out[ARGOLYTHE_OUT_USED];
         count_out(t, answer, out);
     }
@@ -248,10 +268,11 @@ static void peer_backs(struct side *s, uint32_t n, size_t used, struct tally *t)
 {
     for (uint32_t i = 0; i < n; i++) {
         peer_report r = peer_step_back(s->image, IMAGE_LEN, s->pad, PAD_LEN, s->vdp, VDP_LEN, s->reg, REG_LEN,
-                                       s->journal, JOURNAL_LEN, s->pc, used, 0, 0, WRITABLE);
+                                       s->journal, JOURNAL_LEN, s->pc, used, 0, 0, WRITABLE, s->source);
         s->pc = r.pc;
+        s->source = r.source;
         used = r.used;
-        count(t, r.answer, r.pc, r.used, 0, r.stores, r.address, r.place);
+        count(t, r.answer, r.pc, r.used, 0, r.stores, r.address, r.place, r.source);
     }
 }
 
@@ -261,11 +282,46 @@ static void our_backs(struct side *s, uint32_t n, size_t used, struct tally *t)
     uint64_t out[ARGOLYTHE_OUTS];
     for (uint32_t i = 0; i < n; i++) {
         uint8_t answer = argolythe_step_back(s->image, IMAGE_LEN, s->pad, PAD_LEN, s->vdp, VDP_LEN, s->reg, REG_LEN,
-                                             s->journal, JOURNAL_LEN, s->pc, used, 0, 0, WRITABLE, out);
+                                             s->journal, JOURNAL_LEN, s->pc, used, 0, 0, WRITABLE, s->source, out);
         s->pc = (uint16_t)out[ARGOLYTHE_OUT_PC];
+        s->source = (uint8_t)out[ARGOLYTHE_OUT_SOURCE];
         used = (size_t)out[ARGOLYTHE_OUT_USED];
         count(t, answer, out[ARGOLYTHE_OUT_PC], out[ARGOLYTHE_OUT_USED], 0, out[ARGOLYTHE_OUT_STORES],
-              out[ARGOLYTHE_OUT_ADDRESS], out[ARGOLYTHE_OUT_PLACE]);
+              out[ARGOLYTHE_OUT_ADDRESS], out[ARGOLYTHE_OUT_PLACE], out[ARGOLYTHE_OUT_SOURCE]);
+    }
+}
+
+/* n ticks, from an empty journal. */
+static void peer_ticks(struct side *s, uint32_t n, struct tally *t)
+{
+    size_t used = 0, sent;
+    uint8_t output[OUTPUT_LEN];
+    for (uint32_t i = 0; i < n; i++) {
+        peer_report r = peer_tick(s->image, IMAGE_LEN, s->pad, PAD_LEN, s->vdp, VDP_LEN, s->reg, REG_LEN, s->journal,
+                                  JOURNAL_LEN, s->pc, used, 0, 0, WRITABLE, s->source, output, OUTPUT_LEN, &sent);
+        s->pc = r.pc;
+        s->source = r.source;
+        used = r.used;
+        count(t, r.answer, r.pc, r.used, r.steps, r.stores, r.address, r.place, r.source);
+        count_sent(t, output, sent);
+    }
+}
+
+/* The archive's, likewise. */
+static void our_ticks(struct side *s, uint32_t n, struct tally *t)
+{
+    size_t used = 0, sent;
+    uint8_t output[OUTPUT_LEN];
+    uint64_t out[ARGOLYTHE_OUTS];
+    for (uint32_t i = 0; i < n; i++) {
+        uint8_t answer = argolythe_tick(s->image, IMAGE_LEN, s->pad, PAD_LEN, s->vdp, VDP_LEN, s->reg, REG_LEN,
+                                        s->journal, JOURNAL_LEN, s->pc, used, 0, 0, WRITABLE, s->source,
+                                        output, OUTPUT_LEN, &sent, out);
+        s->pc = (uint16_t)out[ARGOLYTHE_OUT_PC];
+        s->source = (uint8_t)out[ARGOLYTHE_OUT_SOURCE];
+        used = (size_t)out[ARGOLYTHE_OUT_USED];
+        count_out(t, answer, out);
+        count_sent(t, output, sent);
     }
 }
 
@@ -287,6 +343,9 @@ static void repeat(const struct work *w, struct side *s, bool ours, struct tally
         break;
     case BACKS:
         ours ? our_backs(s, w->n, used, t) : peer_backs(s, w->n, used, t);
+        break;
+    case TICKS:
+        ours ? our_ticks(s, w->n, t) : peer_ticks(s, w->n, t);
         break;
     }
     t->ns += now_ns() - from;
@@ -313,7 +372,7 @@ static void slice(const struct work *w, struct side *s, bool ours, uint64_t repe
 /* Both did the same: every report, every lent byte and journal word. */
 static bool same(const struct side *a, const struct tally *x, const struct side *b, const struct tally *y)
 {
-    return x->steps == y->steps && x->stores == y->stores && x->sum == y->sum && a->pc == b->pc &&
+    return x->steps == y->steps && x->stores == y->stores && x->sum == y->sum && a->pc == b->pc && a->source == b->source &&
            memcmp(a->image, b->image, IMAGE_LEN) == 0 && memcmp(a->pad, b->pad, PAD_LEN) == 0 && memcmp(a->vdp, b->vdp, VDP_LEN) == 0 &&
            memcmp(a->reg, b->reg, REG_LEN) == 0 &&
            memcmp(a->journal, b->journal, JOURNAL_LEN * sizeof(uint32_t)) == 0;

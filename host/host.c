@@ -1,6 +1,6 @@
 /* Runs four instructions to their end, looks at what they left, and walks back to the start; then a card
- * that writes itself, a loop that goes round a small journal, the image written as a dump, and a cartridge
- * that leaves a wrong byte, with the step that wrote it. */
+ * that writes itself, a loop that goes round a small journal, a sound list played tick by tick, the image
+ * written as a dump, and a cartridge that leaves a wrong byte, with the step that wrote it. */
 #include "argolythe.h"
 #include <stdio.h>
 #include <string.h>
@@ -18,6 +18,11 @@ static uint8_t image[ARGOLYTHE_GROUP] = {
     [0x30] =
     0x90, 0x12,             /* 0030  INC  pad >12 */
     0x05, 0x00, 0x30,       /* 0032  B    >0030 */
+    [0x40] =
+    0xF6, 0x14, 0x00,       /* 0040  I/O  pad word >14, 0: a sound list in GROM */
+    [0x50] =
+    0x02, 0xE4, 0xF2, 0x05, /* 0050  two bytes for the sound chip, then 5 ticks */
+    0x01, 0xFF, 0x00,       /* 0054  one byte more, and the end */
 };
 /* Another cartridge, examples/overrun.md: the loop clears one byte too many. */
 static const uint8_t overrun[] = {
@@ -40,6 +45,7 @@ static size_t used;
 static uint8_t ring;     /* 1 for a journal that drops its oldest steps */
 static size_t place;     /* of its oldest word */
 static uint8_t writable; /* bit 0 for group 0, the only one here */
+static uint8_t source;   /* of the sound list: 1 for VDP RAM */
 
 static int wrong; /* how many things were not as expected */
 
@@ -57,13 +63,14 @@ static void keep(const uint64_t *out)
     pc = (uint16_t)out[ARGOLYTHE_OUT_PC];
     used = (size_t)out[ARGOLYTHE_OUT_USED];
     place = (size_t)out[ARGOLYTHE_OUT_PLACE];
+    source = (uint8_t)out[ARGOLYTHE_OUT_SOURCE];
 }
 
 static uint8_t run(uint32_t n, uint64_t *out)
 {
     uint8_t answer = argolythe_run(image, sizeof image, pad, sizeof pad, vdp, sizeof vdp,
                                    reg, sizeof reg, journal, journal_len, pc, used, ring, place,
-                                   writable, n, out);
+                                   writable, source, n, out);
     keep(out);
     return answer;
 }
@@ -72,7 +79,18 @@ static uint8_t step(uint64_t *out)
 {
     uint8_t answer = argolythe_step(image, sizeof image, pad, sizeof pad, vdp, sizeof vdp,
                                     reg, sizeof reg, journal, journal_len, pc, used, ring, place,
-                                    writable, out);
+                                    writable, source, out);
+    keep(out);
+    return answer;
+}
+
+/* What the tick sends goes to output, of 8 bytes. */
+static uint8_t tick(uint8_t output[8], size_t *sent)
+{
+    uint64_t out[ARGOLYTHE_OUTS];
+    uint8_t answer = argolythe_tick(image, sizeof image, pad, sizeof pad, vdp, sizeof vdp,
+                                    reg, sizeof reg, journal, journal_len, pc, used, ring, place,
+                                    writable, source, output, 8, sent, out);
     keep(out);
     return answer;
 }
@@ -81,7 +99,7 @@ static uint8_t step_back(uint64_t *out)
 {
     uint8_t answer = argolythe_step_back(image, sizeof image, pad, sizeof pad, vdp, sizeof vdp,
                                          reg, sizeof reg, journal, journal_len, pc, used, ring, place,
-                                         writable, out);
+                                         writable, source, out);
     keep(out);
     return answer;
 }
@@ -223,6 +241,36 @@ static void a_loop_in_a_ring(void)
     journal_len = 64;
 }
 
+/* A list started, played to its end, and one tick of it taken back. */
+static void a_sound(void)
+{
+    uint64_t out[ARGOLYTHE_OUTS];
+    uint8_t output[8], answer;
+    size_t sent;
+    int ticks = 0;
+    pad[0x14] = 0x00; /* the list's address */
+    pad[0x15] = 0x50;
+    used = 0;
+    pc = 0x0040;
+    answer = step(out);
+    printf("An I/O answers %d: the list at %02X%02X is due in %d tick.\n", answer, pad[0xCC], pad[0xCD], pad[0xCE]);
+    expect(answer == ARGOLYTHE_DONE && pad[0xCD] == 0x50 && pad[0xCE] == 1 && source == 0, "a list in GROM");
+
+    for (; pad[0xCE] != 0; ticks += 1) {
+        expect(tick(output, &sent) == ARGOLYTHE_DONE, "a tick");
+        for (size_t i = 0; i < sent; i += 1)
+            printf("Tick %d sends %02X to the sound chip.\n", ticks + 1, output[i]);
+    }
+    expect(ticks == 6 && sent == 1 && output[0] == 0xFF && pad[0xCD] == 0x57, "the end, past the list");
+    expect(pc == 0x0043 && pad[0x73] == 0x7E, "pc was pushed and popped");
+
+    answer = step_back(out);
+    printf("A step back answers %d: the list stands at %02X%02X again, due in %d tick. What was sent stays sent.\n",
+           answer, pad[0xCC], pad[0xCD], pad[0xCE]);
+    expect(answer == ARGOLYTHE_DONE && pad[0xCD] == 0x54 && pad[0xCE] == 1, "as it was before tick 6");
+    expect(pc == 0x0043 && output[0] == 0xFF, "the byte is not recalled");
+}
+
 /* The image as a dump, read back; and a dump whose third line names an address twice. */
 static void dump_and_back(void)
 {
@@ -304,6 +352,7 @@ int main(void)
     back_to_the_start();
     a_card_that_writes_itself();
     a_loop_in_a_ring();
+    a_sound();
     dump_and_back();
     a_wrong_byte();
     before_the_culprit();

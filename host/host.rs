@@ -1,18 +1,26 @@
-// The same library from Rust: a slice is a pointer and a length. Two steps, the second of which writes the card, who wrote there, and two back.
+// The same library from Rust: a slice is a pointer and a length. Two steps, the second of which writes the card, who wrote there, and two back; then a tick of a sound list.
 extern "C" {
     #[rustfmt::skip]
     fn argolythe_step(
         image: *mut u8, image_len: usize, pad: *mut u8, pad_len: usize,
         vdp: *mut u8, vdp_len: usize, reg: *mut u8, reg_len: usize,
         journal: *mut u32, journal_len: usize, pc: u16, used: usize,
-        ring: u8, place: usize, writable: u8, out: *mut u64,
+        ring: u8, place: usize, writable: u8, source: u8, out: *mut u64,
+    ) -> u8;
+    #[rustfmt::skip]
+    fn argolythe_tick(
+        image: *mut u8, image_len: usize, pad: *mut u8, pad_len: usize,
+        vdp: *mut u8, vdp_len: usize, reg: *mut u8, reg_len: usize,
+        journal: *mut u32, journal_len: usize, pc: u16, used: usize,
+        ring: u8, place: usize, writable: u8, source: u8,
+        output: *mut u8, output_len: usize, sent: *mut usize, out: *mut u64,
     ) -> u8;
     #[rustfmt::skip]
     fn argolythe_step_back(
         image: *mut u8, image_len: usize, pad: *mut u8, pad_len: usize,
         vdp: *mut u8, vdp_len: usize, reg: *mut u8, reg_len: usize,
         journal: *mut u32, journal_len: usize, pc: u16, used: usize,
-        ring: u8, place: usize, writable: u8, out: *mut u64,
+        ring: u8, place: usize, writable: u8, source: u8, out: *mut u64,
     ) -> u8;
     #[rustfmt::skip]
     fn argolythe_who_wrote(
@@ -34,18 +42,20 @@ struct Machine {
     ring: u8,     // 0: a plain journal
     place: usize, // of a ring's oldest word
     writable: u8, // bit g for group g
+    source: u8,   // of the sound list: 1 for VDP RAM
 }
 
 impl Machine {
     // What a call leaves is where the next one starts.
-    fn keep(&mut self, out: [u64; 6]) {
+    fn keep(&mut self, out: [u64; 7]) {
         self.pc = out[0] as u16;
         self.used = out[1] as usize;
         self.place = out[5] as usize;
+        self.source = out[6] as u8;
     }
 
     fn step(&mut self) -> u8 {
-        let mut out = [0; 6];
+        let mut out = [0; 7];
         // Each pointer goes with its own length, and distinct fields do not overlap.
         #[rustfmt::skip]
         let answer = unsafe {
@@ -53,15 +63,34 @@ impl Machine {
                 self.image.as_mut_ptr(), self.image.len(), self.pad.as_mut_ptr(), self.pad.len(),
                 self.vdp.as_mut_ptr(), self.vdp.len(), self.reg.as_mut_ptr(), self.reg.len(),
                 self.journal.as_mut_ptr(), self.journal.len(), self.pc, self.used,
-                self.ring, self.place, self.writable, out.as_mut_ptr(),
+                self.ring, self.place, self.writable, self.source, out.as_mut_ptr(),
             )
         };
         self.keep(out);
         answer
     }
 
+    // The answer, and what was sent.
+    fn tick<'a>(&mut self, output: &'a mut [u8]) -> (u8, &'a [u8]) {
+        let mut out = [0; 7];
+        let mut sent = 0;
+        // As above; what it sends to is borrowed apart from the machine.
+        #[rustfmt::skip]
+        let answer = unsafe {
+            argolythe_tick(
+                self.image.as_mut_ptr(), self.image.len(), self.pad.as_mut_ptr(), self.pad.len(),
+                self.vdp.as_mut_ptr(), self.vdp.len(), self.reg.as_mut_ptr(), self.reg.len(),
+                self.journal.as_mut_ptr(), self.journal.len(), self.pc, self.used,
+                self.ring, self.place, self.writable, self.source,
+                output.as_mut_ptr(), output.len(), &mut sent, out.as_mut_ptr(),
+            )
+        };
+        self.keep(out);
+        (answer, &output[..sent])
+    }
+
     fn step_back(&mut self) -> u8 {
-        let mut out = [0; 6];
+        let mut out = [0; 7];
         // As above.
         #[rustfmt::skip]
         let answer = unsafe {
@@ -69,7 +98,7 @@ impl Machine {
                 self.image.as_mut_ptr(), self.image.len(), self.pad.as_mut_ptr(), self.pad.len(),
                 self.vdp.as_mut_ptr(), self.vdp.len(), self.reg.as_mut_ptr(), self.reg.len(),
                 self.journal.as_mut_ptr(), self.journal.len(), self.pc, self.used,
-                self.ring, self.place, self.writable, out.as_mut_ptr(),
+                self.ring, self.place, self.writable, self.source, out.as_mut_ptr(),
             )
         };
         self.keep(out);
@@ -105,6 +134,7 @@ fn main() {
         ring: 0,
         place: 0,
         writable: 1,
+        source: 0,
     };
     m.image[..3].copy_from_slice(&[0xBE, 0x10, 0x2A]); // ST >2A to pad >10
     m.image[3..9].copy_from_slice(&[0x25, 0, 1, 0, 0x80, 0x10]); // MOVE 1 byte from pad >10 to GROM >0080
@@ -124,4 +154,14 @@ fn main() {
     let back = m.step_back();
     println!("One more answers {back}: pc is {:04X}, pad >10 holds {:02X}.", m.pc, m.pad[0x10]);
     assert!(back == 0 && m.pc == 0 && m.pad[0x10] == 0 && m.used == 0);
+    m.vdp[0x400..0x404].copy_from_slice(&[2, 0xE4, 0xF2, 5]); // a sound list: two bytes, then 5 ticks
+    m.pad[0xCC..0xCF].copy_from_slice(&[4, 0, 1]); // its address, and 1: due at the next tick
+    m.source = 1;
+    let mut output = [0; 8];
+    let (ticked, sent) = m.tick(&mut output);
+    println!("A tick answers {ticked} and sends {sent:02X?}: {} ticks to the next block.", m.pad[0xCE]);
+    assert!(ticked == 0 && sent == [0xE4, 0xF2] && m.pad[0xCC..0xCF] == [4, 4, 5] && m.source == 1);
+    let unticked = m.step_back();
+    println!("A step back answers {unticked}: the list stands at {:02X}{:02X} again.", m.pad[0xCC], m.pad[0xCD]);
+    assert!(unticked == 0 && m.pad[0xCC..0xCF] == [4, 0, 1] && m.source == 1 && m.used == 0);
 }

@@ -1,4 +1,4 @@
-/* Argolythe for C11 and C++: steps, runs, steps back, the viewer, who wrote a cell, and dumps.
+/* Argolythe for C11 and C++: steps, runs, ticks, steps back, the viewer, who wrote a cell, and dumps.
  *
  * Link `libexport.a`, which `rt staticlib export` writes to target/staticlib/, for x86-64 Linux.
  *
@@ -10,8 +10,8 @@
  *   aligned for its type. That holds for the call alone: nothing is kept when it returns.
  * - A pointer to const is only read. Any other is read and written, the image too: of that only
  *   the groups named writable, but it is lent for writing also where none is.
- * - No two things lent to one call overlap, `out`, `offset`, `line` and `count` among them, except that two const
- *   ones may. No other thread writes what is lent const, or touches what is not, until the call
+ * - No two things lent to one call overlap, `out`, `sent`, `offset`, `line` and `count` among them, except that two
+ *   const ones may. No other thread writes what is lent const, or touches what is not, until the call
  *   returns.
  * - No pointer is NULL, also where its length is 0: a journal of 0 words is any aligned pointer
  *   with the length 0. No object is larger than PTRDIFF_MAX bytes.
@@ -57,7 +57,7 @@ enum argolythe_answer {
     ARGOLYTHE_DONE = 0,
     ARGOLYTHE_ENDED = 1,           /* opcode >0B (EXIT): nothing changes, pc stays on it */
     ARGOLYTHE_NO_INSTRUCTION = 2,  /* no such instruction */
-    ARGOLYTHE_NEEDS_HOST = 3,      /* >03, >0F, >F4 to >F7 */
+    ARGOLYTHE_NEEDS_HOST = 3,      /* >03, >0F; >F4 to >F7 with another function than 0 or 1, or a VDP destination */
     ARGOLYTHE_OFF_CPU = 4,         /* CPU offset above >DF, or a format operand in VDP RAM */
     ARGOLYTHE_OFF_VDP = 5,         /* VDP address above >3FFF */
     ARGOLYTHE_OFF_IMAGE = 6,       /* GROM address beyond the image */
@@ -72,10 +72,11 @@ enum argolythe_answer {
     ARGOLYTHE_NO_END = 22,         /* a dump: no end record */
     ARGOLYTHE_TOO_COARSE = 23,     /* COINC's granularity above 7 */
     ARGOLYTHE_READ_ONLY = 24,      /* a MOVE into a GROM group that is not writable */
+    ARGOLYTHE_OUTPUT_FULL = 26,    /* a tick has more bytes to send than the output holds */
     ARGOLYTHE_OUT_SHORT = 31       /* output too short */
 };
 
-/* ---- what comes out: six numbers, whatever the answer */
+/* ---- what comes out: seven numbers, whatever the answer */
 
 enum argolythe_out {
     ARGOLYTHE_OUT_PC = 0,      /* pc for the next call; that of this call if a step was refused */
@@ -84,12 +85,14 @@ enum argolythe_out {
     ARGOLYTHE_OUT_STORES = 3,  /* how many bytes these steps stored; 0 for a step back */
     ARGOLYTHE_OUT_ADDRESS = 4, /* the address that was turned down, see below */
     ARGOLYTHE_OUT_PLACE = 5,   /* place of the oldest kept journal word for the next call */
-    ARGOLYTHE_OUTS = 6
+    ARGOLYTHE_OUT_SOURCE = 6,  /* source flag for the next call: 0 or 1 */
+    ARGOLYTHE_OUTS = 7
 };
 
 /* ARGOLYTHE_OUT_ADDRESS is, with answer 4, the pad offset that was turned down, or a format operand's
- * VDP address; with 5 the VDP address; with 6 the GROM address. Of a word it is the first byte out of
- * range. It has 16 bits, and is 0 with every other answer, so of a step back always. */
+ * VDP address; with 5 the VDP address; with 6 the GROM address, that of a sound list's byte too. Of a
+ * word it is the first byte out of range. It has 16 bits, and is 0 with every other answer, so of a step
+ * back always. */
 
 /* ---- the calls
  *
@@ -98,10 +101,12 @@ enum argolythe_out {
  * empty one, and then what the last call left in out. writable names the groups of the image that a
  * program may write, bit g for the group at g times >2000: 0 for cartridges that cannot be written. A
  * group that the image does not have may be named. Calls on one journal want the same groups, since a
- * step back puts nothing back in others and answers 12. The host may write pad, vdp, reg and the image
- * between calls; a step back then puts back the bytes that its step had found. A call that answers 11
- * or 12 touches only out. A refused step puts all back, and zeroes the journal words that it had begun
- * to use.
+ * step back puts nothing back in others and answers 12. source says where the sound list is: 0 in GROM,
+ * any other value in VDP RAM. It begins as 0 and goes with pc: each call is handed what the last one left
+ * in out, a step back gives it back with pc, and a refused step leaves it. The host may write pad, vdp,
+ * reg and the image between calls; a step back then puts back the bytes that its step had found. A call
+ * that answers 11 or 12 touches only out, and a tick's sent. A refused step puts all back, and zeroes the
+ * journal words that it had begun to use.
  *
  * ring says how the journal is used; 0 is no, any other value yes. It is chosen while the journal is
  * empty, and kept: no call can tell in which way the words were laid.
@@ -123,7 +128,7 @@ uint8_t argolythe_step(uint8_t *image, size_t image_len,
                        uint8_t *vdp, size_t vdp_len,
                        uint8_t *reg, size_t reg_len,
                        uint32_t *journal, size_t journal_len,
-                       uint16_t pc, size_t used, uint8_t ring, size_t place, uint8_t writable,
+                       uint16_t pc, size_t used, uint8_t ring, size_t place, uint8_t writable, uint8_t source,
                        uint64_t out[ARGOLYTHE_OUTS]);
 
 /* Up to n steps, to the first answer other than 0. The numbers are those of the steps done before
@@ -133,16 +138,36 @@ uint8_t argolythe_run(uint8_t *image, size_t image_len,
                       uint8_t *vdp, size_t vdp_len,
                       uint8_t *reg, size_t reg_len,
                       uint32_t *journal, size_t journal_len,
-                      uint16_t pc, size_t used, uint8_t ring, size_t place, uint8_t writable, uint32_t n,
-                      uint64_t out[ARGOLYTHE_OUTS]);
+                      uint16_t pc, size_t used, uint8_t ring, size_t place, uint8_t writable, uint8_t source,
+                      uint32_t n, uint64_t out[ARGOLYTHE_OUTS]);
 
-/* The newest step in the journal, taken back: 0, 11 or 12. */
+/* One tick of the sound list, which a console makes sixty times a second; no run makes any. The pad's >CE
+ * counts down, and when it comes to 0 the block at >CC's address is due: its bytes are sent, and its last
+ * byte is the new count. A size of 0 or >FF is followed by a new address, in the same memory or in the
+ * other one, and sends nothing. With 0 in >CE no list plays, and the tick does no more than its mark.
+ *
+ * A tick is a step: it takes a mark and a word for each store, and can be taken back. It answers 0, 5, 6,
+ * 7, 10, 11 or 26, and ARGOLYTHE_OUT_STEPS is 1 if it was done, else 0. Nothing is read at pc, which may
+ * be any. What it sends goes to output from its first byte on, *sent bytes; the rest of output stays as it
+ * was. An output may have any length, 0 too: 26 is answered when a byte finds no room in it, and no block
+ * has more than 254. A refused tick leaves 0 in the bytes of output that it had written, and *sent is 0. A
+ * step back does not recall the bytes that its tick had sent. */
+uint8_t argolythe_tick(uint8_t *image, size_t image_len,
+                       uint8_t *pad, size_t pad_len,
+                       uint8_t *vdp, size_t vdp_len,
+                       uint8_t *reg, size_t reg_len,
+                       uint32_t *journal, size_t journal_len,
+                       uint16_t pc, size_t used, uint8_t ring, size_t place, uint8_t writable, uint8_t source,
+                       uint8_t *output, size_t output_len, size_t *sent,
+                       uint64_t out[ARGOLYTHE_OUTS]);
+
+/* The newest step in the journal, or tick, taken back: 0, 11 or 12. */
 uint8_t argolythe_step_back(uint8_t *image, size_t image_len,
                             uint8_t *pad, size_t pad_len,
                             uint8_t *vdp, size_t vdp_len,
                             uint8_t *reg, size_t reg_len,
                             uint32_t *journal, size_t journal_len,
-                            uint16_t pc, size_t used, uint8_t ring, size_t place, uint8_t writable,
+                            uint16_t pc, size_t used, uint8_t ring, size_t place, uint8_t writable, uint8_t source,
                             uint64_t out[ARGOLYTHE_OUTS]);
 
 enum argolythe_memory { ARGOLYTHE_SEE_CPU = 0, ARGOLYTHE_SEE_VDP = 1 };
@@ -169,7 +194,7 @@ enum argolythe_cell {
 enum argolythe_who {
     ARGOLYTHE_WHO_FOUND = 0,  /* 1 if a kept step stored to the cell */
     ARGOLYTHE_WHO_AFTER = 1,  /* how many kept steps came after it: 0 is the newest */
-    ARGOLYTHE_WHO_PC = 2,     /* where its instruction stood */
+    ARGOLYTHE_WHO_PC = 2,     /* where its instruction stood; of a tick, the next one */
     ARGOLYTHE_WHO_BEFORE = 3, /* the byte in the cell before that step */
     ARGOLYTHE_WHO_LEFT = 4,   /* the byte that the step left */
     ARGOLYTHE_WHO_OUTS = 5

@@ -110,6 +110,7 @@ fn walk(image: &mut [u8; 8192]) {
         ring: false,
         place: 0,
         writable: 0,
+        source: false,
     };
     let r = bench::runs::run(
         image,

@@ -7,7 +7,7 @@ use native.Mathlib.Omega.{arith}
 use lib.ListN.{length}
 use Rattle.rules.specs.Machine.{State}
 use Rattle.rules.specs.Answers.{Answer, saying, well, answerFor, wrongLength}
-use Rattle.rules.specs.Calls.{fits, Reply, left, step, stepStores, made, Report, report, steps, run}
+use Rattle.rules.specs.Calls.{instruction, fits, Reply, left, step, stepStores, made, Report, report, steps, run}
 use Rattle.rules.specs.Demands.{Good, Accepted, Demand2}
 use Rattle.rules.proofs.Replies.{demand2}
 use Rattle.rules.proofs.Fits.{fits-used, fits-words}
@@ -51,21 +51,21 @@ sets-out {n} {i} {p} {v} {g} j {at} f l w d a b c =
 
 -- ---- one step more, which returned x
 
-module _ {n : ℕ} {s₀ : State} {k c : ℕ} {s : State} {x : Returned walk.Reply} (u : Underway n s₀ k c s) (e : Tells told settling s x) where
-  call : Tells told stepping s x
-  call = step-fits (sym (u .fit)) refl e
+module _ {n : ℕ} {s₀ : State} {k c : ℕ} {s : State} {x : Returned walk.Reply} (u : Underway n s₀ k c s) (e : Tells told (settling instruction) s x) where
+  call : Tells told (stepping instruction) s x
+  call = step-fits instruction (sym (u .fit)) refl e
 
-  count : x .result .answer ≡ 0 → x .result .stores ≡ length (stepStores s)
-  count z = counts call ∙ ap (made s) (accepts call z)
+  count : x .result .answer ≡ 0 → x .result .stores ≡ length (stepStores instruction s)
+  count z = counts call ∙ ap (made instruction s) (accepts call z)
 
-  done-it : x .result .answer ≡ 0 → Accepted (step s)
+  done-it : x .result .answer ≡ 0 → Accepted (step instruction s)
   done-it z = subst Accepted (sym (accepts call z)) tt
 
   -- a journal has room for its stores
   pub few : x .result .answer ≡ 0 → x .result .stores ≤ 1048576
   few z =
-      let d : Demand2 s (leaves x) (length (stepStores s)) = demand2 s (leaves x) (accepts call z) in
-      let f : fits (leaves x .mem) ≡ true = subst (λ (q : Reply). fits (left q .mem) ≡ true) (accepts call z) (fits-after s (u .good) (done-it z)) in
+      let d : Demand2 instruction s (leaves x) (length (stepStores instruction s)) = demand2 instruction s (leaves x) (accepts call z) in
+      let f : fits (leaves x .mem) ≡ true = subst (λ (q : Reply). fits (left q .mem) ≡ true) (accepts call z) (fits-after instruction s (u .good) (done-it z)) in
       omega (arith, d .used, count z, fits-used (leaves x .mem) f, fits-words (leaves x .mem) f)
 
   -- it was done: the rest of the run starts where it ended
@@ -76,8 +76,8 @@ module _ {n : ℕ} {s₀ : State} {k c : ℕ} {s : State} {x : Returned walk.Rep
       let more : n - k ≡ suc (n - (k + 1)) = omega arith in
       record {
         whole = recount (after .answer) (after .end) (omega arith) (omega (arith, count z)) ∙ (rw (more, accepts call z) at (u .whole));
-        fit = subst (λ (q : Reply). fits (left q .mem) ≡ true) (accepts call z) (fits-after s (u .good) (done-it z));
-        good = subst (λ (q : Reply). Good (left q)) (accepts call z) (stepped s (u .good) (done-it z) .good);
+        fit = subst (λ (q : Reply). fits (left q .mem) ≡ true) (accepts call z) (fits-after instruction s (u .good) (done-it z));
+        good = subst (λ (q : Reply). Good (left q)) (accepts call z) (stepped instruction s (u .good) (done-it z) .good);
         made = omega arith;
         stored = omega (arith, few z, u .stored);
       }
@@ -92,7 +92,7 @@ module _ {n : ℕ} {s₀ : State} {k c : ℕ} {s : State} {x : Returned walk.Rep
 -- ---- how it ends
 
 pub stops : {n : ℕ} {s₀ : State} {k c : ℕ} {s : State} {i p v g j : List ℕ} {r : walk.Reply} → Underway n s₀ k c s
-    → Tells told settling s (returned i p v g j r) → k < n → (r .answer ≡ 0 → ⊥)
+    → Tells told (settling instruction) s (returned i p v g j r) → k < n → (r .answer ≡ 0 → ⊥)
     → Tells reported (steps n) s₀ (returned i p v g j (record { answer = r .answer; address = r .address; steps = k; stores = c; at = r .at }))
 stops u e l h = record { is = breaks-off u e l h }
 

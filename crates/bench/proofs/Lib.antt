@@ -2,5 +2,6 @@ pub mod Links
 pub mod Replies
 pub mod Steps
 pub mod Ahead
+pub mod Heard
 pub mod Promises
 pub mod Sequence

@@ -2,17 +2,18 @@
 use mathlib.Core.Path.{_≡_, refl, _∙_, ap, sym}
 use mathlib.Core.Bool.{Bool, true, false}
 use mathlib.Core.List.{List, []}
-use Prim.Native.Nat.{ℕ, _+_, _-_}
+use Prim.Native.Nat.{ℕ, _+_, _-_, _<_}
 use native.Mathlib.Omega.{arith}
 use lib.Dec.{eqb, leb}
 use lib.ListN.{length, take, drop}
 use denote.Ref.{RefT, now}
 use borrow.Author.Tests.{ne-eqb, eq-eqb, leb-true, leb-false, eqb-true}
-use Rattle.rules.specs.Machine.{pick, _also_, cpu, vdp, register, size, reach, areaOf, Mem, area, State, state, atRest}
+use Rattle.rules.specs.Machine.{pick, _also_, cpu, vdp, register, size, reach, areaOf, flagged, Mem, State, state, atRest}
 use Rattle.rules.specs.Answers.{answerFor, wrongLength, noRecord}
 use Rattle.rules.specs.Journal.{undo, turned}
 use Rattle.rules.specs.Calls.{partsFit, fits, done, Find, scan, backTo, fitBack, stepBack, Memory, kindOf, viewed, view}
 use Rattle.rules.proofs.Tests.{both}
+use Rattle.rules.proofs.Steps.{flagged-parts}
 use Rattle.ring.specs.declared.book.Book.{Book}
 use Rattle.ring.proofs.Turned.{length-turned}
 use Rattle.machine.specs.Meaning.{memOf, foundAt}
@@ -23,19 +24,20 @@ use Rattle.bench.specs.Meaning.{bookAt, rests, stateAt, Fit, Returned, r
 -- ---- a step back
 
 module _ {i p v g : List ℕ} (j : List ℕ) {at : At} {b : Book} (q : b ≡ bookAt at) where
-  pub back-lost : {n : ℕ} (pc : ℕ) → foundAt n pc ≡ scan (areaOf (length i) (at .writable)) (b .used) (turned (b .ring) (b .place) j) → n ≡ 0
+  pub back-lost : {n : ℕ} (a : ℕ) → foundAt n a ≡ scan (areaOf (length i) (at .writable)) (b .used) (turned (b .ring) (b .place) j) → n ≡ 0
       → Tells told undoing (stateAt i p v g j at) (returned i p v g j (refusal (answerFor noRecord) at))
   unfolding fitBack replies foundAt
-  back-lost pc e h = record { is = ap (λ (f : Find). outcome (backTo f (stateAt i p v g j at)) 0) (rw (h, q) at e) }
+  back-lost a e h = record { is = ap (λ (f : Find). outcome (backTo f (stateAt i p v g j at)) 0) (rw (h, q) at e) }
 
-  pub back-found : {w : ℕ} {i₁ p₁ v₁ g₁ j₁ : List ℕ} {n pc : ℕ} {c : Book}
-      → foundAt n pc ≡ scan (areaOf (length i) (at .writable)) (b .used) (turned (b .ring) (b .place) j) → (n ≡ 0 → ⊥)
+  pub back-found : {w : ℕ} {i₁ p₁ v₁ g₁ j₁ : List ℕ} {n pc : ℕ} {f : Bool} {c : Book}
+      → pc < 65536 → foundAt n (flagged pc f) ≡ scan (areaOf (length i) (at .writable)) (b .used) (turned (b .ring) (b .place) j) → (n ≡ 0 → ⊥)
       → memOf i₁ w p₁ v₁ g₁ j₁ c ≡ undo n (memOf i (at .writable) p v g j b)
-      → Tells told undoing (stateAt i p v g j at) (returned i₁ p₁ v₁ g₁ j₁ (record { answer = 0; address = 0; stores = 0; at = rests pc c w }))
+      → Tells told undoing (stateAt i p v g j at) (returned i₁ p₁ v₁ g₁ j₁ (record { answer = 0; address = 0; stores = 0; at = rests pc c w f }))
   unfolding fitBack replies foundAt
-  back-found {n = n} {pc = pc} e h k =
+  back-found {n = n} {pc = pc} {f = f} l e h k =
       record {
-        is = ap (λ (m : Mem). outcome (done (state pc (atRest m))) 0) (rw q at k)
+        is = ap (λ (m : Mem). outcome (done (state pc f (atRest m))) 0) (rw q at k)
+            ∙ ap (λ (s : State). outcome (done s) 0) (sym (flagged-parts pc f _ l))
             ∙ ap (λ (f : Find). outcome (backTo f (stateAt i p v g j at)) 0) (rw (ne-eqb n 0 h, q) at e);
       }
 

@@ -6,7 +6,7 @@ use Prim.Native.Nat.{ℕ}
 use native.Mathlib.Omega.{arith}
 use Rattle.rules.specs.Machine.{pick, area, State}
 use Rattle.rules.specs.Answers.{saying, answerFor, wrongLength}
-use Rattle.rules.specs.Calls.{fits, Reply, done, refused, made, Report, report, run, Find, found, lost, scan, backTo, fitBack, stepBack, Memory, view}
+use Rattle.rules.specs.Calls.{Way, instruction, fits, Reply, done, refused, made, Report, report, run, Find, found, lost, scan, backTo, fitBack, stepBack, Memory, view}
 use Rattle.rules.specs.Demands.{BackCause, wrong-parts, no-record, Demand1, Demand2, Ends}
 use Rattle.rules.proofs.Named.{Answered, named-run}
 use Rattle.rules.proofs.Struck.{listed-not-9, answered-not-9, back-not-9}
@@ -21,8 +21,8 @@ use Rattle.bench.proofs.Replies.{accepts, refuses, counts, atOf, return
 -- ---- Each contract determines what it speaks of: two outcomes that it allows are equal, every lent byte and the result.
 
 module _ {s : State} where
-  pub step-determined : {x y : Returned walk.Reply} → Tells told stepping s x → Tells told stepping s y → x ≡ y
-  step-determined e k = same-told (e .is ∙ sym (k .is))
+  pub step-determined : (w : Way) {x y : Returned walk.Reply} → Tells told (stepping w) s x → Tells told (stepping w) s y → x ≡ y
+  step-determined w e k = same-told (e .is ∙ sym (k .is))
 
   pub step-back-determined : {x y : Returned walk.Reply} → Tells told backing s x → Tells told backing s y → x ≡ y
   step-back-determined e k = same-told (e .is ∙ sym (k .is))
@@ -41,18 +41,18 @@ module _ {s : State} where
 pub view-determined : (w : Memory) (p v : List ℕ) (at len : ℕ) {x y : List ℕ} → x ≡ view w p v at len → y ≡ view w p v at len → x ≡ y
 view-determined w p v at len e k = e ∙ sym k
 
--- ---- a step
+-- ---- a step: an instruction or a tick
 
-module _ {s : State} {x : Returned walk.Reply} (e : Tells told stepping s x) where
+module _ (w : Way) {s : State} {x : Returned walk.Reply} (e : Tells told (stepping w) s x) where
   -- Demand 1. A refused step: its answer is one of the listed refusals; pc, image, pad, VDP RAM and registers are as before it; the journal words that it
   -- had begun to use are 0, and so are those of the steps that it dropped; all others are as before. It reports no stores.
-  pub demand1 : (x .result .answer ≡ 0 → ⊥) → Demand1 s (saying (x .result .answer) (x .result .address)) (leaves x) × (x .result .stores ≡ 0)
-  demand1 h = (replies-of.demand1 s (saying (x .result .answer) (x .result .address)) (leaves x) (refuses e h), counts e ∙ ap (made s) (refuses e h))
+  pub demand1 : (x .result .answer ≡ 0 → ⊥) → Demand1 w s (saying (x .result .answer) (x .result .address)) (leaves x) × (x .result .stores ≡ 0)
+  demand1 h = (replies-of.demand1 w s (saying (x .result .answer) (x .result .address)) (leaves x) (refuses e h), counts e ∙ ap (made w s) (refuses e h))
 
   -- Demand 2. An accepted step: pc and memories are those that the rules give, the count is the number of stores in the rules' list, and what is
   -- kept of the journal has grown by a word for the step and one for each store.
-  pub demand2 : x .result .answer ≡ 0 → Demand2 s (leaves x) (x .result .stores)
-  demand2 z = rw (counts e ∙ ap (made s) (accepts e z)) (replies-of.demand2 s (leaves x) (accepts e z))
+  pub demand2 : x .result .answer ≡ 0 → Demand2 w s (leaves x) (x .result .stores)
+  demand2 z = rw (counts e ∙ ap (made w s) (accepts e z)) (replies-of.demand2 w s (leaves x) (accepts e z))
 
 -- ---- a run
 
@@ -82,7 +82,7 @@ stays s = go (fits (s .mem)) refl (scan (area (s .mem)) (s .mem .used) (s .mem .
   where
     go : (c : Bool) → fits (s .mem) ≡ c → (f : Find) → scan (area (s .mem)) (s .mem .used) (s .mem .journal) ≡ f
         → StaysAs s (pick c (backTo f s) (refused (answerFor wrongLength) s))
-    go true e (found n pc) k = tt
+    go true e (found n a) k = tt
     go true e lost k = (no-record e k, refl)
     go false e f k = (wrong-parts e, refl)
 
@@ -93,8 +93,8 @@ step-back-refused {s = s} e h = subst (StaysAs s) (refuses e h) (stays s)
 
 -- ---- 02, item 8: no call answers 9
 
-pub step-not-9 : {s : State} {x : Returned walk.Reply} → Tells told stepping s x → x .result .answer ≡ 9 → ⊥
-step-not-9 e h = listed-not-9 (demand1 e (λ z. omega arith) .0 .listed) h
+pub step-not-9 : (w : Way) {s : State} {x : Returned walk.Reply} → Tells told (stepping w) s x → x .result .answer ≡ 9 → ⊥
+step-not-9 w e h = listed-not-9 (demand1 w e (λ z. omega arith) .0 .listed) h
 
 pub run-not-9 : (n : ℕ) {s : State} {x : Returned runs.Report} → Tells reported (run n) s x → x .result .answer ≡ 9 → ⊥
 run-not-9 n e h = answered-not-9 (run-listed n e) h

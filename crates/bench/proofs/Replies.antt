@@ -46,7 +46,7 @@ module _ {f : State → Outcome} {s : State} {x : Returned walk.Reply} (e : Tell
 
 -- what is returned can be read off what it tells
 abbrev pub atOf : State → At
-atOf s = record { pc = s .pc; used = s .mem .used; ring = s .mem .ring; place = s .mem .place; writable = s .mem .groups }
+atOf s = record { pc = s .pc; used = s .mem .used; ring = s .mem .ring; place = s .mem .place; writable = s .mem .groups; source = s .source }
 
 abbrev pub returnedOf : {A : Type 0} → Mem → A → Returned A
 returnedOf m r = returned (m .image) (m .pad) (m .vram) (m .regs) (unturned (m .ring) (m .place) (m .journal)) r

@@ -1,23 +1,28 @@
 -- What the public calls take and hand back, in the words of the rules.
 use mathlib.Core.Path.{_≡_}
-use mathlib.Core.Bool.{true}
+use mathlib.Core.Bool.{Bool, true}
 use mathlib.Core.List.{List, []}
-use Prim.Native.Nat.{ℕ, _-_, _≤_}
+use Prim.Native.Nat.{ℕ, _-_, _≤_, _<_}
 use lib.Dec.{eqb, leb}
 use lib.ListN.{length, take, drop}
 use denote.Ref.{RefT, now}
-use Rattle.rules.specs.Machine.{pick, State, state, atRest}
+use Rattle.rules.specs.Machine.{pick, State, state, address, atRest}
 use Rattle.rules.specs.Answers.{Answer, saying}
 use Rattle.rules.specs.Journal.{Store}
-use Rattle.rules.specs.Rules.{Out, got, stopped}
-use Rattle.rules.specs.Opcodes.{Task, does}
+use Rattle.rules.specs.Rules.{Rule, Out, got, stopped, valued}
+use Rattle.rules.specs.Operands.{Width}
+use Rattle.rules.specs.Opcodes.{Task}
+use Rattle.rules.specs.Sound.{Source, startRule}
+use Rattle.rules.specs.Tasks.{ruleOf, go, keeping}
 use Rattle.rules.specs.Calls as calls
+use Rattle.rules.specs.Demands.{Good}
 use Rattle.ring.specs.declared.book.Book.{Book}
 use Rattle.machine.specs.declared.state.Now.{Now}
-use Rattle.machine.specs.Meaning.{IsPad, IsVram, IsRegs, Parts, Rest, after′, memOf, memBefore, end, unseenAll, Stand, outOf}
+use Rattle.machine.specs.Meaning.{IsPad, IsVram, IsRegs, Lent, Parts, Rest, after′, memOf, memBefore, start, unseenAll, Stand, outOf}
 use Rattle.bench.specs.declared.at.At.{At}
 use Rattle.bench.specs.declared.walk.Reply as walk
 use Rattle.bench.specs.declared.runs.Report as runs
+use Rattle.bench.specs.declared.ticks.Ticked.{Ticked}
 use Rattle.bench.specs.declared.viewer.Memory.{Memory}
 use Rattle.bench.specs.declared.viewer.Memory.the-variants.{Cpu, Vdp}
 
@@ -28,12 +33,12 @@ abbrev pub bookAt : At → Book
 bookAt at = record { used = at .used; older = at .used; place = at .place; ring = at .ring }
 
 -- where a machine rests
-abbrev pub rests : ℕ → Book → ℕ → At
-rests pc b w = record { pc = pc; used = b .used; ring = b .ring; place = b .place; writable = w }
+abbrev pub rests : ℕ → Book → ℕ → Source → At
+rests pc b w f = record { pc = pc; used = b .used; ring = b .ring; place = b .place; writable = w; source = f }
 
 -- beside image, pad, VDP RAM, registers and the caller's journal
 abbrev pub stateAt : List ℕ → List ℕ → List ℕ → List ℕ → List ℕ → At → State
-stateAt i p v g j at = state (at .pc) (memOf i (at .writable) p v g j (bookAt at))
+stateAt i p v g j at = state (at .pc) (at .source) (memOf i (at .writable) p v g j (bookAt at))
 
 -- ---- what test 11 asks
 
@@ -99,21 +104,29 @@ abbrev pub refusal : Answer → At → walk.Reply
 refusal a at = record { answer = a .number; address = a .address; stores = 0; at = at }
 
 -- how an attempt is settled, with the number of its stores: "A refused step puts all back", and reports none
-abbrev pub settled : State → Out (Unit {0}) → List Store → Outcome
-settled s (got a pc m) ss = outcome (calls.settle s (got a pc m)) (length ss)
+abbrev pub settled : State → Out Source → List Store → Outcome
+settled s (got f pc m) ss = outcome (calls.settle s (got f pc m)) (length ss)
 settled s (stopped a m) ss = outcome (calls.settle s (stopped a m)) 0
 
--- a task, its opcode read, past which is pc₁
-abbrev pub beginning : Task → ℕ → State → Outcome
-beginning t pc₁ s = settled s (calls.begin (s .pc) (does t) pc₁ (atRest (s .mem))) (calls.beginStores (s .pc) (does t) pc₁ (atRest (s .mem)))
+-- the mark and a rule, where pc is pc₁: past the opcode, if one was read
+abbrev pub beginning : Rule Source → ℕ → State → Outcome
+beginning r pc₁ s = settled s (calls.begin (address s) (go r) pc₁ (atRest (s .mem))) (calls.beginStores (address s) (go r) pc₁ (atRest (s .mem)))
+
+-- a task, which leaves the flag as it is
+abbrev pub doing : Task → At → ℕ → State → Outcome
+doing t at pc₁ s = beginning (keeping (at .source) (ruleOf t)) pc₁ s
+
+-- the start of a list
+abbrev pub starting : Bool → Width → ℕ → State → Outcome
+starting imm w pc₁ s = beginning (startRule imm w) pc₁ s
 
 -- a step past test 11
-abbrev pub settling : State → Outcome
-settling s = settled s (calls.attempt s) (calls.stepStores s)
+abbrev pub settling : calls.Way → State → Outcome
+settling w s = settled s (calls.attempt w s) (calls.stepStores w s)
 
 -- a step
-abbrev pub stepping : State → Outcome
-stepping s = outcome (calls.step s) (calls.made s (calls.step s))
+abbrev pub stepping : calls.Way → State → Outcome
+stepping w s = outcome (calls.step w s) (calls.made w s (calls.step w s))
 
 -- a step back past test 11
 abbrev pub undoing : State → Outcome
@@ -131,31 +144,82 @@ noSteps a at = record { answer = a .number; address = a .address; steps = 0; sto
 abbrev pub reported : Returned runs.Report → calls.Report
 reported x = calls.report (saying (x .result .answer) (x .result .address)) (x .result .steps) (x .result .stores) (standsAt x (x .result .at))
 
+-- ---- a tick: as a step, and what it does to an output
+
+pub record Heard : Type 0 where
+  pub outcome : Outcome
+  pub sent : ℕ
+  pub output : List ℕ
+
+abbrev pub replied : Returned Ticked → Returned walk.Reply
+replied x =
+    returned (x .image) (x .pad) (x .vram) (x .regs) (x .journal)
+    (record { answer = x .result .answer; address = x .result .address; stores = x .result .stores; at = x .result .at })
+
+-- with the output as it is left
+abbrev pub heard : List ℕ → Returned Ticked → Heard
+heard o x = record { outcome = told (replied x); sent = x .result .sent; output = o }
+
+abbrev pub heardAs : walk.Reply → ℕ → Ticked
+heardAs r n = record { answer = r .answer; address = r .address; stores = r .stores; at = r .at; sent = n }
+
+-- past test 11, with the output as it was lent
+abbrev pub fitTicking : List ℕ → State → Heard
+fitTicking o s =
+    let r : calls.Reply = calls.fitStep (calls.tick (length o)) s in
+    record { outcome = settling (calls.tick (length o)) s; sent = calls.sentBy (length o) s r; output = calls.written r (calls.tickSent (length o) s) o }
+
+abbrev pub ticking : List ℕ → State → Heard
+ticking o s =
+    record {
+      outcome = stepping (calls.tick (length o)) s;
+      sent = calls.sentBy (length o) s (calls.step (calls.tick (length o)) s);
+      output = calls.tickOutput o s;
+    }
+
 -- ---- what a contract says
 
 -- what a call returns, in the words of the rules, is what they say of a state
 pub record Tells {A B : Type 0} (say : Returned A → B) (f : State → B) (s : State) (x : Returned A) : Type 0 where
   pub is : say x ≡ f s
 
--- the mark and a task, whose opcode is read, past which is pc₁, have brought a machine to where it stands
-pub record Tries (t : Task) (pc₁ : ℕ) (s : State) (e : Stand) : Type 0 where
-  pub is : outOf e ≡ calls.begin (s .pc) (does t) pc₁ (atRest (s .mem))
+-- the mark and a rule have brought a machine from pc₁ to where it stands, and the rule gives the source flag f
+pub record Tries (r : Rule Source) (f : Source) (pc₁ : ℕ) (s : State) (e : Stand) : Type 0 where
+  pub is : valued f (outOf e) ≡ calls.begin (address s) (go r) pc₁ (atRest (s .mem))
+
+-- the state from which that was tried
+pub record Before (at : At) (s : State) : Type 0 where
+  pub pc : s .pc ≡ at .pc
+  pub source : s .source ≡ at .source
+  pub good : Good s
+  pub used : s .mem .used ≤ length (s .mem .journal)
+
+-- what such an attempt leaves of a journal: its own words are above the older ones, all have room, and where it was not refused there is a mark
+pub record Begun (j : RefT (List ℕ)) (m : Now) : Type 0 where
+  pub own : m .book .older ≤ m .book .used
+  pub used : m .book .used ≤ length (now j)
+  pub marked : m .answer ≡ 0 → m .book .older < m .book .used
 
 -- the state that a function is lent, where q are the parts that it sees
 abbrev pub lentTo : (q : Parts) → Rest q → At → State
-lentTo q rest at = state (at .pc) (memBefore q rest (bookAt at))
+lentTo q rest at = state (at .pc) (at .source) (memBefore q rest (bookAt at))
 
 -- at goes in, and a result or a machine comes out: whatever the rest of the machine is, that is so of what was lent and what is left
 abbrev pub Returns : {A B : Type 0} → (Returned A → B) → (State → B) → (q : Parts) → At → A → Type 0
 Returns say f q at r =
     (rest : Rest q) → Tells say f (lentTo q rest at) (returnedBy q rest r)
 
-abbrev pub Attempts : Task → ℕ → (Parts → Parts) → At → Now → Type 0
-Attempts t pc₁ parts at m =
-    (rest : Rest (parts unseenAll)) → Tries t pc₁ (lentTo (parts unseenAll) rest at) (end (parts unseenAll) rest m)
+-- whatever was tried, from whichever state at `at`, it is settled
+abbrev pub Settles : (Parts → Parts) → At → Now → Source → walk.Reply → Type 0
+Settles parts at m f x =
+    (rest : Rest (parts unseenAll)) (r : Rule Source) (pc₁ : ℕ) (s : State) → Before at s → Tries r f pc₁ s (start (parts unseenAll) rest m)
+    → Tells told (beginning r pc₁) s (returnedBy (parts unseenAll) rest x)
 
 abbrev pub Replies : (State → Outcome) → (Parts → Parts) → At → walk.Reply → Type 0
 Replies f parts at r = Returns told f (parts unseenAll) at r
+
+abbrev pub Hears : (List ℕ → State → Heard) → (Parts → Parts) → Lent → At → Ticked → Type 0
+Hears f parts o at r = Returns (heard (now (o .exit))) (f (now (o .entry))) (parts unseenAll) at r
 
 abbrev pub Reports : (State → calls.Report) → (Parts → Parts) → At → runs.Report → Type 0
 Reports f parts at r = Returns reported f (parts unseenAll) at r

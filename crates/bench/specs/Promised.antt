@@ -4,9 +4,10 @@ use mathlib.Core.Bool.{false}
 use mathlib.Core.List.{List, [], _∷_, _++_}
 use Prim.Native.Nat.{ℕ, zero, suc, _+_, _-_, _<_}
 use lib.Dec.{eqb}
+use lib.ListN.{length}
 use Rattle.rules.specs.Machine.{pick, State}
 use Rattle.rules.specs.Answers.{saying}
-use Rattle.rules.specs.Calls.{run}
+use Rattle.rules.specs.Calls.{instruction, tick, run}
 use Rattle.rules.specs.Demands.{BackCause, Op, forth, aback, total, Past, past, history, Demand3}
 use Rattle.bench.specs.declared.walk.Reply as walk
 use Rattle.bench.specs.declared.runs.Report as runs
@@ -17,13 +18,18 @@ use Rattle.bench.specs.Meaning.{Returned, leaves, told, stepping, backin
 -- what a call said: the result that it handed back
 pub data Said : Type 0 where
   stepped backed : walk.Reply → Said
+  -- with an output of so many bytes, which is left aside
+  ticked : ℕ → walk.Reply → Said
   ran : runs.Report → Said
 
--- "any sequence of steps and step-backs, refused ones among them", and runs: calls, each known by its contract, that have led from s₀ to a state; and what they
+-- "any sequence of steps and step-backs, refused ones among them", and ticks and runs: calls, each known by its contract, that have led from s₀ to a state; and what they
 -- said, newest first
 pub data Called (s₀ : State) : List Said → State → Type 0 where
   no-call : Called s₀ [] s₀
-  then-step : {l : List Said} {s : State} {x : Returned walk.Reply} → Called s₀ l s → Tells told stepping s x → Called s₀ (stepped (x .result) ∷ l) (leaves x)
+  then-step : {l : List Said} {s : State} {x : Returned walk.Reply} → Called s₀ l s → Tells told (stepping instruction) s x
+      → Called s₀ (stepped (x .result) ∷ l) (leaves x)
+  then-tick : {l : List Said} {s : State} (n : ℕ) {x : Returned walk.Reply} → Called s₀ l s → Tells told (stepping (tick n)) s x
+      → Called s₀ (ticked n (x .result) ∷ l) (leaves x)
   then-back : {l : List Said} {s : State} {x : Returned walk.Reply} → Called s₀ l s → Tells told backing s x → Called s₀ (backed (x .result) ∷ l) (leaves x)
   then-run : {l : List Said} {s : State} (n : ℕ) {x : Returned runs.Report} → Called s₀ l s → Tells reported (run n) s x
       → Called s₀ (ran (x .result) ∷ l) (reported x .end)
@@ -54,6 +60,7 @@ noMore r c = count (c .steps) (c .stores) (r .at .used)
 -- a run counts by its own report
 abbrev pub counts : Said → Count → Count
 counts (stepped r) c = pick (eqb (r .answer) 0) (oneMore r c) (noMore r c)
+counts (ticked n r) c = pick (eqb (r .answer) 0) (oneMore r c) (noMore r c)
 counts (backed r) c = pick (eqb (r .answer) 0) (oneLess r c) (noMore r c)
 counts (ran r) c = count (c .steps + r .steps) (c .stores + r .stores) (r .at .used)
 
@@ -64,17 +71,18 @@ countOf (a ∷ l) = counts a (countOf l)
 
 -- ---- the same in the words of the rules
 
--- so many steps
+-- so many instructions
 abbrev pub forths : ℕ → List Op
 forths zero = []
-forths (suc n) = forths n ++ forth ∷ []
+forths (suc n) = forths n ++ forth instruction ∷ []
 
 -- a run is the steps that it made, and where it was cut short one that was refused
 abbrev pub runOps : ℕ → ℕ → List Op
-runOps a k = forths k ++ pick (eqb a 0) [] (forth ∷ [])
+runOps a k = forths k ++ pick (eqb a 0) [] (forth instruction ∷ [])
 
 abbrev pub ops : Said → List Op
-ops (stepped r) = forth ∷ []
+ops (stepped r) = forth instruction ∷ []
+ops (ticked n r) = forth (tick n) ∷ []
 ops (backed r) = aback ∷ []
 ops (ran r) = runOps (r .answer) (r .steps)
 
@@ -84,7 +92,7 @@ allOps (a ∷ l) = allOps l ++ ops a
 
 -- the accepted steps not taken back, and how many of them the rules keep
 abbrev pub pastOf : State → List Said → Past
-pastOf s₀ l = history s₀ (allOps l) s₀ (past 0 0)
+pastOf s₀ l = history s₀ (allOps l) s₀ (past [] 0)
 
 -- ---- demand 3
 
@@ -92,11 +100,11 @@ pastOf s₀ l = history s₀ (allOps l) s₀ (past 0 0)
 pub record Keeps (s₀ : State) (h : Past) (c : Count) (s : State) : Type 0 where
   -- so many steps, and no other call, lead from s₀ to the same address and memories, and those that are kept to the same journal words
   pub steps : Demand3 s₀ h s
-  pub counted : h .steps ≡ c .steps
+  pub counted : length (h .steps) ≡ c .steps
   pub used : s .mem .used ≡ c .used
   -- "The journal then uses one word for each such step and one for each store that it made": where none is dropped, by what was counted
   pub words : s₀ .mem .ring ≡ false → c .used ≡ c .steps + c .stores
-  pub stores : s₀ .mem .ring ≡ false → c .stores ≡ total (c .steps) s₀
+  pub stores : s₀ .mem .ring ≡ false → c .stores ≡ total (h .steps) s₀
   -- "A step-back is refused only when no such step is left.": the answer of the next one
   pub some-left : {x : Returned walk.Reply} → Tells told backing s x → 0 < h .kept → x .result .answer ≡ 0
   pub none-left : {x : Returned walk.Reply} → Tells told backing s x → h .kept ≡ 0 → BackCause s (saying (x .result .answer) (x .result .address))

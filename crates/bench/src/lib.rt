@@ -1,6 +1,7 @@
-// The public calls: step, run, step_back and view.
+// The public calls: step, run, step_back, tick and view.
 pub mod at;
 pub mod fits;
 pub mod runs;
+pub mod ticks;
 pub mod viewer;
 pub mod walk;

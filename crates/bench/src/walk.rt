@@ -9,9 +9,10 @@ use opcode::class::Class;
 use opcode::class::Task;
 ghost use mathlib.Core.Path.{_≡_};
 ghost use Rattle.rules.specs.Answers.{saying, answerFor};
+ghost use Rattle.rules.specs.Calls.{instruction};
 ghost use Rattle.opcode.specs.Meaning.{taskOf};
 ghost use Rattle.machine.specs.Meaning.{whyOf, _&_, Groups, Image, Journal, Pad, Regs, Vram};
-ghost use Rattle.bench.specs.Meaning.{Fit, Attempts, Replies, refusal, beginning, settling, stepping, undoing, backing};
+ghost use Rattle.bench.specs.Meaning.{Fit, Begun, Settles, Replies, refusal, doing, starting, settling, stepping, undoing, backing};
 
 // What a call leaves: its answer, with the address that was turned down or 0, how many bytes it stored, and where the machine stands.
 pub struct Reply {
@@ -32,7 +33,7 @@ fn refused(answer: u8, address: u16, at: At) -> Reply
     }
 }
 
-fn turned_down(why: Why, at: At) -> Reply
+pub(crate) fn turned_down(why: Why, at: At) -> Reply
     ensures { λ r. ⌜ r ≡ refusal (answerFor (whyOf why)) at ⌝ }
 {
     refused(answers::number(why), answers::address(why), at)
@@ -40,25 +41,40 @@ fn turned_down(why: Why, at: At) -> Reply
 
 // ---- a step
 
-// The mark and the task. The opcode stood at `at`, and `next` is past it.
-fn try_task(
+// What was attempted, from `at` to here, with the source flag that it leaves: done, or on a refusal all put back.
+pub(crate) fn settle(
     image: &mut [u8],
     pad: &mut [u8],
     vram: &mut [u8],
     regs: &mut [u8],
     journal: &mut [u32],
     at: At,
-    next: u16,
-    task: Task,
-) -> Now
-    requires { ⌜ Fit pad vram regs journal at ⌝ }
-    ensures { λ m. ⌜ Attempts (taskOf task) next (Image image & Groups (at .writable) & Pad pad & Vram vram & Regs regs & Journal journal) at m ⌝ }
+    m: Now,
+    source: bool,
+) -> Reply
+    requires { ⌜ Begun journal m ⌝ }
+    ensures { λ r. ⌜ Settles (Image image & Groups (at .writable) & Pad pad & Vram vram & Regs regs & Journal journal) at m source r ⌝ }
 {
-    let marked = machine::journal::take_mark(journal, at::begin(at, next), at.pc);
-    opcode::task::perform(image, pad, vram, regs, journal, marked, at.writable, task)
+    let book = m.book;
+    let taken = book.used - book.older;
+    if m.answer == 0 {
+        let stores = taken - 1;
+        return Reply {
+            answer: 0,
+            address: 0,
+            stores: stores as u64,
+            at: at::rest(m.pc, book, at.writable, source),
+        };
+    }
+    let back = machine::journal::undo(image, pad, vram, regs, journal, book, taken);
+    refused(
+        m.answer,
+        m.address,
+        at::rest(at.pc, back, at.writable, at.source),
+    )
 }
 
-// A task, and on a refusal all put back.
+// The mark and the task. The opcode stood at `at`, and `next` is past it.
 fn do_task(
     image: &mut [u8],
     pad: &mut [u8],
@@ -70,22 +86,40 @@ fn do_task(
     task: Task,
 ) -> Reply
     requires { ⌜ Fit pad vram regs journal at ⌝ }
-    ensures { λ r. ⌜ Replies (beginning (taskOf task) next) (Image image & Groups (at .writable) & Pad pad & Vram vram & Regs regs & Journal journal) at r ⌝ }
+    ensures { λ r. ⌜ Replies (doing (taskOf task) at next) (Image image & Groups (at .writable) & Pad pad & Vram vram & Regs regs & Journal journal) at r ⌝ }
 {
-    let m = try_task(image, pad, vram, regs, journal, at, next, task);
-    let book = m.book;
-    let taken = book.used - book.older;
-    if m.answer == 0 {
-        let stores = taken - 1;
-        return Reply {
-            answer: 0,
-            address: 0,
-            stores: stores as u64,
-            at: at::rest(m.pc, book, at.writable),
-        };
-    }
-    let back = machine::journal::undo(image, pad, vram, regs, journal, book, taken);
-    refused(m.answer, m.address, at::rest(at.pc, back, at.writable))
+    let marked = machine::journal::take_mark(journal, at::begin(at, next), at.pc, at.source);
+    let m = opcode::task::perform(image, pad, vram, regs, journal, marked, at.writable, task);
+    settle(image, pad, vram, regs, journal, at, m, at.source)
+}
+
+// The mark and the start of a sound list.
+fn do_start(
+    image: &mut [u8],
+    pad: &mut [u8],
+    vram: &mut [u8],
+    regs: &mut [u8],
+    journal: &mut [u32],
+    at: At,
+    next: u16,
+    imm: bool,
+    wide: bool,
+) -> Reply
+    requires { ⌜ Fit pad vram regs journal at ⌝ }
+    ensures { λ r. ⌜ Replies (starting imm wide next) (Image image & Groups (at .writable) & Pad pad & Vram vram & Regs regs & Journal journal) at r ⌝ }
+{
+    let marked = machine::journal::take_mark(journal, at::begin(at, next), at.pc, at.source);
+    let started = sound::start::start(image, pad, vram, journal, marked, imm, wide);
+    settle(
+        image,
+        pad,
+        vram,
+        regs,
+        journal,
+        at,
+        started.now,
+        started.source,
+    )
 }
 
 // A step past test 11: the opcode, and its class.
@@ -98,7 +132,7 @@ pub(crate) fn fit_step(
     at: At,
 ) -> Reply
     requires { ⌜ Fit pad vram regs journal at ⌝ }
-    ensures { λ r. ⌜ Replies settling (Image image & Groups (at .writable) & Pad pad & Vram vram & Regs regs & Journal journal) at r ⌝ }
+    ensures { λ r. ⌜ Replies (settling instruction) (Image image & Groups (at .writable) & Pad pad & Vram vram & Regs regs & Journal journal) at r ⌝ }
 {
     let op = machine::grom::next_byte(image, at::begin(at, at.pc));
     if op.answer != 0 {
@@ -108,6 +142,7 @@ pub(crate) fn fit_step(
     match class {
         Class::Stops(why) => turned_down(why, at),
         Class::Does(task) => do_task(image, pad, vram, regs, journal, at, op.pc, task),
+        Class::Starts(imm, wide) => do_start(image, pad, vram, regs, journal, at, op.pc, imm, wide),
     }
 }
 
@@ -119,7 +154,7 @@ pub fn step(
     journal: &mut [u32],
     at: At,
 ) -> Reply
-    ensures { λ r. ⌜ Replies stepping (Image image & Groups (at .writable) & Pad pad & Vram vram & Regs regs & Journal journal) at r ⌝ }
+    ensures { λ r. ⌜ Replies (stepping instruction) (Image image & Groups (at .writable) & Pad pad & Vram vram & Regs regs & Journal journal) at r ⌝ }
 {
     let fit = fits::all_fit(
         image.len(),
@@ -160,7 +195,7 @@ fn fit_back(
         answer: 0,
         address: 0,
         stores: 0,
-        at: at::rest(found.pc, left, at.writable),
+        at: at::rest(found.pc, left, at.writable, found.source),
     }
 }
 

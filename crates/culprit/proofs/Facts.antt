@@ -7,7 +7,8 @@ use lib.ListN.{replicate, set}
 use Rattle.rules.specs.Machine.{cpu, vdp, register, grom, size, group, Mem, mem, State, state}
 use Rattle.rules.specs.Answers.{answerFor, wrongLength, noRecord}
 use Rattle.rules.specs.Journal.{turned}
-use Rattle.rules.specs.Calls.{run, left, stepBack}
+use Rattle.rules.specs.Calls.{tick, run, left, stepBack}
+use Rattle.rules.specs.Demands.{forward}
 use Rattle.rules.specs.Cards.{Code, code, burnt}
 use Rattle.rules.proofs.Compute.{everyRule}
 use Rattle.culprit.specs.Culprit.{sameCell, follow, allSound, marked, whole, answered, refusal, noneKept, wrote, whoWrote}
@@ -20,7 +21,7 @@ all = tt
 -- the code at 0, group 0 writable, cells 0 but >00 and the status, and an empty journal of n words, of which steps are dropped or not
 abbrev start : Code → ℕ → ℕ → ℕ → Bool → State
 start c b s n ring =
-    state 0 (mem (burnt (c ∷ []) (replicate group 0)) 1 (set (set (replicate (size cpu) 0) 0 b) 0x7C s) (replicate (size vdp) 0) (replicate (size register) 0)
+    state 0 false (mem (burnt (c ∷ []) (replicate group 0)) 1 (set (set (replicate (size cpu) 0) 0 b) 0x7C s) (replicate (size vdp) 0) (replicate (size register) 0)
     (replicate n 0) 0 0 0 ring)
 
 -- CLR >00, INC >00, INC >01, BACK 5: 2, 3, 3 and 2 words
@@ -79,6 +80,20 @@ pub round : whoWrote cpu 1 (ran 6 true .mem) ≡ wrote 1 4 0 1
 unfolding all
 round = refl
 
+-- ---- 02, item 10: "A tick is a step", and may be the one that is named
+
+-- a list in VDP RAM is started whose address is the word at >7B, 3, and ticks go on from there: a size of 0 is a new address, 0
+abbrev ticked : ℕ → State
+ticked n = forward (replicate n (tick 0)) (run 1 (start (code 3 0xF67B01 0) 0 3 20 false) .end)
+
+pub the-start : whoWrote cpu 0xCD (ticked 0 .mem) ≡ wrote 0 0 0 3
+unfolding all
+the-start = refl
+
+pub a-tick : whoWrote cpu 0xCD (ticked 1 .mem) ≡ wrote 0 3 3 0
+unfolding all
+a-tick = refl
+
 -- ---- words that are lent
 
 abbrev holding : Bool → ℕ → List ℕ → ℕ → Mem
@@ -102,7 +117,7 @@ unfolding all
 place-too-far = refl
 
 -- a mark with a surplus bit, in a record that step-back would not come to
-pub surplus : whoWrote cpu 0 (lent (0x60010000 ∷ 0x60000000 ∷ 7 ∷ []) 3) ≡ refusal (answerFor noRecord)
+pub surplus : whoWrote cpu 0 (lent (0x60020000 ∷ 0x60000000 ∷ 7 ∷ []) 3) ≡ refusal (answerFor noRecord)
 unfolding all
 surplus = refl
 
@@ -114,6 +129,11 @@ no-such-cell = refl
 pub no-mark-below : whoWrote cpu 0 (lent (7 ∷ 0x60000000 ∷ 7 ∷ []) 3) ≡ refusal (answerFor noRecord)
 unfolding all
 no-mark-below = refl
+
+-- 02, item 10: a mark's pc is its low 16 bits; above them is the source flag
+pub flag-above : whoWrote cpu 0 (lent (0x60010005 ∷ 7 ∷ []) 2) ≡ wrote 0 5 7 0
+unfolding all
+flag-above = refl
 
 -- GROM: group 0 is writable, and there is no other
 pub grom-cell : whoWrote grom 0x1234 (lent (0x60000005 ∷ 0x80123407 ∷ []) 2) ≡ wrote 0 5 7 0

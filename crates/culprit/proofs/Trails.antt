@@ -9,7 +9,6 @@ use native.Mathlib.Omega.{arith}
 use lib.Dec.{eqb}
 use lib.ListN.{length, getD, take}
 use lib.Seq.{take-suc, getD-take, length-take-le}
-use borrow.Author.Tests.{ltb-true}
 use Rattle.rules.specs.Machine.{pick, _also_, Kind, cpu, vdp, register, grom, Area, Mem}
 use Rattle.rules.specs.Answers.{answerFor, wrongLength, noRecord}
 use Rattle.rules.specs.Journal.{kindNumber, Note, mark, stoodIn, noteOf, note, sound, marks}
@@ -56,18 +55,15 @@ module _ (left n p b : ℕ) (f : Bool) where
 
 -- ---- a sound word, by its kind
 
--- a mark's address is the word's low sixteen bits
-noted-mark : (z : Area) (w : ℕ) → w / 2 ^ 29 ≡ 3 → sound z (note w) ≡ true → note w ≡ mark (w % 65536)
+-- a mark's pc is the word's low sixteen bits
+noted-mark : (w : ℕ) → w / 2 ^ 29 ≡ 3 → note w ≡ mark (w % 2 ^ 29)
 unfolding note
-noted-mark z w e h =
-    let x : noteOf (w / 2 ^ 29) (w % 2 ^ 29) ≡ mark (w % 2 ^ 29) = ap (λ (n : ℕ). noteOf n (w % 2 ^ 29)) e in
-    let small : w % 2 ^ 29 < 65536 = ltb-true (w % 2 ^ 29) 65536 (sym (ap (sound z) x) ∙ h) in
-    let low : w % 2 ^ 29 ≡ w % 65536 = omega arith in
-    x ∙ ap mark low
+noted-mark w e = ap (λ (n : ℕ). noteOf n (w % 2 ^ 29)) e
 
-pub told-mark : (z : Area) (k : Kind) (a w n : ℕ) {r : Trail} (t : Trail) → n ≡ w / 2 ^ 29 → n ≡ 3 → sound z (note w) ≡ true → r ≡ trail (w % 65536) (later (t .by))
-    → r ≡ told k a (note w) t
-told-mark z k a w n t e f h q = q ∙ ap (λ (x : Note). told k a x t) (sym (noted-mark z w (sym e ∙ f) h))
+pub told-mark : (k : Kind) (a w n : ℕ) {r : Trail} (t : Trail) → n ≡ w / 2 ^ 29 → n ≡ 3 → r ≡ trail (w % 65536) (later (t .by)) → r ≡ told k a (note w) t
+told-mark k a w n t e f q =
+    let low : w % 65536 ≡ w % 2 ^ 29 % 65536 = omega arith in
+    q ∙ ap (λ (x : ℕ). trail x (later (t .by))) low ∙ ap (λ (x : Note). told k a x t) (sym (noted-mark w (sym e ∙ f)))
 
 -- any other is a store's
 record Celled (n low : ℕ) : Type 0 where

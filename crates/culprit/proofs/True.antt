@@ -3,26 +3,27 @@
 use mathlib.Core.Path.{_≡_, refl, _∙_, ap, ap₂, sym, subst}
 use mathlib.Core.Bool.{Bool, true, false}
 use mathlib.Core.List.{List, [], _∷_, _++_, map}
-use Prim.Native.Nat.{ℕ, zero, suc, _+_, _-_, _≤_, _<_}
+use Prim.Native.Nat.{ℕ, zero, suc, _+_, _%_, _≤_, _<_}
 use native.Mathlib.Nat.{not-suc-le-zero}
 use native.Mathlib.Omega.{arith}
 use lib.Dec.{ltb, eqb}
 use lib.ListN.{length, getD, set}
 use lib.Seq.{getD-set-other}
 use borrow.Author.Tests.{eqb-true, eqb-false, eq-eqb, lt-ltb, ltb-true, ltb-false}
-use Rattle.rules.specs.Machine.{pick, _also_, Kind, cpu, vdp, register, grom, Area, areaOf, extent, writable, Mem, area, State, cells, put}
+use Rattle.rules.specs.Machine.{pick, _also_, Kind, cpu, vdp, register, grom, Area, areaOf, extent, writable, Mem, area, State, address, cells, put}
 use Rattle.rules.specs.Answers.{number, answerFor, wrongLength, noRecord}
 use Rattle.rules.specs.Journal.{kindNumber, Store, wordOf, make, Note, stood, mark, nothing, note, sound, usedWords}
-use Rattle.rules.specs.Calls.{fits, stepStores}
+use Rattle.rules.specs.Calls.{Way, fits, stepStores}
 use Rattle.rules.specs.Demands.{Bytes, Good, Op, play, Past, past, history, forward, AllAccepted, recordOf, records, Demand3}
 use Rattle.rules.proofs.Tests.{false-true, both, together}
 use Rattle.rules.proofs.Stores.{Made, none, one, area-after}
 use Rattle.rules.proofs.Undo.{note-mark, note-store, bytes-after}
-use Rattle.rules.proofs.Steps.{Stepped}
+use Rattle.rules.proofs.Steps.{Stepped, flagged-parts, address-small}
 use Rattle.rules.proofs.Records.{made-marked}
 use Rattle.rules.proofs.History.{good-forward, stepped-forward, demand3}
-use Rattle.culprit.specs.Culprit.{sameCell, byteAt, Writer, nobody, writer, later, stamped, Trail, trail, told, follow, newest, allSound, marked, whole}
-use Rattle.culprit.specs.Culprit.{Wrote, refusal, noneKept, wrote, named, answered, fitWho, whoWrote, storesTo, stepTo, Kept, True, unfit, nobody-did, that-did}
+use Rattle.culprit.specs.Culprit.{sameCell, byteAt, Writer, nobody, writer, later, stamped, Trail, trail, told, follow, writerIn, allSound, marked, whole}
+use Rattle.culprit.specs.Culprit.{Wrote, refusal, noneKept, wrote, named, answered, fitWho, whoWrote, storesTo}
+use Rattle.culprit.specs.Culprit.{Among, newest, older, after, before, leftBy, stepTo, True, unfit, nobody-did, that-did}
 use Rattle.culprit.proofs.Trails.{follow-append, sound-append}
 
 -- ---- one cell
@@ -91,7 +92,7 @@ unnamed z k a e (w ∷ ws) pc h = go (note w) (both h .0) (λ q. unnamed z k a e
   where
     go : (x : Note) → sound z x ≡ true → ((q : ℕ) → follow k a ws (trail q nobody) .by ≡ nobody) → follow k a ws (told k a x (trail pc nobody)) .by ≡ nobody
     go (stood l b c) s so = rw (other-cell z a b (kinds k l) e s) (so pc)
-    go (mark q) s so = so q
+    go (mark q) s so = so (q % 65536)
     go nothing s so = so pc
 
 -- so of one out of reach, or of a group that is not writable, none is kept
@@ -116,34 +117,34 @@ marked-append (x ∷ xs) ys h k = h
 
 module _ (s₀ : State) (g₀ : Good s₀) where
   -- what of GROM there is stays
-  area-forward : (n : ℕ) → AllAccepted n s₀ → area (forward n s₀ .mem) ≡ area (s₀ .mem)
-  area-forward zero acc = refl
-  area-forward (suc n) acc =
-      let h : Stepped (forward n s₀) (stepStores (forward n s₀)) (forward (suc n) s₀) = stepped-forward s₀ g₀ n acc in
-      ap area (h .rests) ∙ area-after (h .late .makes) ∙ area-forward n (acc .0)
+  area-forward : (ws : List Way) → AllAccepted ws s₀ → area (forward ws s₀ .mem) ≡ area (s₀ .mem)
+  area-forward [] acc = refl
+  area-forward (w ∷ ws) acc =
+      let h : Stepped (forward ws s₀) (stepStores w (forward ws s₀)) (forward (w ∷ ws) s₀) = stepped-forward s₀ g₀ w ws acc in
+      ap area (h .rests) ∙ area-after (h .late .makes) ∙ area-forward ws (acc .0)
 
-  record-sound : (n : ℕ) → AllAccepted (suc n) s₀ → allSound (area (s₀ .mem)) (recordOf (forward n s₀)) ≡ true
+  record-sound : (w : Way) (ws : List Way) → AllAccepted (w ∷ ws) s₀ → allSound (area (s₀ .mem)) (recordOf w (forward ws s₀)) ≡ true
   unfolding allSound
-  record-sound n acc =
-      let g : Good (forward n s₀) = good-forward s₀ g₀ n (acc .0) in
-      together (ap (sound (area (s₀ .mem))) (note-mark (forward n s₀ .pc) (g .address)) ∙ lt-ltb _ _ (g .address))
-      (subst (λ (z : Area). allSound z (map wordOf (stepStores (forward n s₀))) ≡ true) (area-forward n (acc .0))
-      (made-sound (g .bytes) (stepped-forward s₀ g₀ n acc .late .makes)))
+  record-sound w ws acc =
+      let g : Good (forward ws s₀) = good-forward s₀ g₀ ws (acc .0) in
+      together (ap (sound (area (s₀ .mem))) (note-mark (address (forward ws s₀)) (address-small g)) ∙ lt-ltb _ _ (address-small g))
+      (subst (λ (z : Area). allSound z (map wordOf (stepStores w (forward ws s₀))) ≡ true) (area-forward ws (acc .0))
+      (made-sound (g .bytes) (stepped-forward s₀ g₀ w ws acc .late .makes)))
 
-  record-marked : (n : ℕ) → AllAccepted (suc n) s₀ → marked (recordOf (forward n s₀)) ≡ true
+  record-marked : (w : Way) (ws : List Way) → AllAccepted (w ∷ ws) s₀ → marked (recordOf w (forward ws s₀)) ≡ true
   unfolding marked
-  record-marked n acc =
-      let g : Good (forward n s₀) = good-forward s₀ g₀ n (acc .0) in
-      made-marked (g .address) (g .bytes) (stepped-forward s₀ g₀ n acc .late .makes) .0
+  record-marked w ws acc =
+      let g : Good (forward ws s₀) = good-forward s₀ g₀ ws (acc .0) in
+      made-marked (address-small g) (g .bytes) (stepped-forward s₀ g₀ w ws acc .late .makes) .0
 
-  records-whole : (c n : ℕ) → AllAccepted n s₀ → whole (area (s₀ .mem)) (records c n s₀) ≡ true
+  records-whole : (c : ℕ) (ws : List Way) → AllAccepted ws s₀ → whole (area (s₀ .mem)) (records c ws s₀) ≡ true
   unfolding whole allSound marked
-  records-whole zero n acc = together refl refl
-  records-whole (suc c) zero acc = together refl refl
-  records-whole (suc c) (suc n) acc =
-      let h : (allSound (area (s₀ .mem)) (records c n s₀) ≡ true) × (marked (records c n s₀) ≡ true) = both (records-whole c n (acc .0)) in
-      together (sound-append (area (s₀ .mem)) (records c n s₀) (recordOf (forward n s₀)) (h .0) (record-sound n acc))
-      (marked-append (records c n s₀) (recordOf (forward n s₀)) (h .1) (record-marked n acc))
+  records-whole zero ws acc = together refl refl
+  records-whole (suc c) [] acc = together refl refl
+  records-whole (suc c) (w ∷ ws) acc =
+      let h : (allSound (area (s₀ .mem)) (records c ws s₀) ≡ true) × (marked (records c ws s₀) ≡ true) = both (records-whole c ws (acc .0)) in
+      together (sound-append (area (s₀ .mem)) (records c ws s₀) (recordOf w (forward ws s₀)) (h .0) (record-sound w ws acc))
+      (marked-append (records c ws s₀) (recordOf w (forward ws s₀)) (h .1) (record-marked w ws acc))
 
 -- ---- what they say of a cell
 
@@ -199,99 +200,98 @@ module _ (k : Kind) (a : ℕ) where
   -- ---- of the kept steps
 
   module _ (s₀ : State) (g₀ : Good s₀) where
-    -- of the newest c of n steps the i-th stored there last, and l came after it
-    record Did (c n l pc b : ℕ) : Type 0 where
-      i : ℕ
-      count : suc (i + l) ≡ n
-      recent : n ≤ i + c
-      did : stepTo k a s₀ i ≡ true
-      since : (j : ℕ) → i < j → j < n → stepTo k a s₀ j ≡ false
-      address : pc ≡ forward i s₀ .pc
-      before : b ≡ byteAt k a (forward i s₀ .mem)
+    -- of the newest c of these steps one stored there last, and l came after it
+    record Did (c : ℕ) (ws : List Way) (l pc b : ℕ) : Type 0 where
+      step : Among ws
+      count : after step ≡ l
+      recent : after step < c
+      did : stepTo k a s₀ step ≡ true
+      since : (y : Among ws) → after y < after step → stepTo k a s₀ y ≡ false
+      address : pc ≡ before step s₀ .pc
+      before-it : b ≡ byteAt k a (before step s₀ .mem)
 
-    abbrev Right : ℕ → ℕ → Writer → Type 0
-    Right c n nobody = (j : ℕ) → n ≤ j + c → j < n → stepTo k a s₀ j ≡ false
-    Right c n (writer l pc b) = Did c n l pc b
+    abbrev Right : ℕ → List Way → Writer → Type 0
+    Right c ws nobody = (y : Among ws) → after y < c → stepTo k a s₀ y ≡ false
+    Right c ws (writer l pc b) = Did c ws l pc b
 
-    -- none of some, nor the one after them
-    nor : (P : ℕ → Type 0) (n : ℕ) → stepTo k a s₀ n ≡ false → ((j : ℕ) → P j → j < n → stepTo k a s₀ j ≡ false)
-        → (j : ℕ) → P j → j < suc n → stepTo k a s₀ j ≡ false
-    nor P n e h j p l = go (ltb j n) refl
-      where
-        go : (c : Bool) → ltb j n ≡ c → stepTo k a s₀ j ≡ false
-        go true q = h j p (ltb-true j n q)
-        go false q =
-            let z : j ≡ n = omega (arith, ltb-false j n q) in
-            ap (stepTo k a s₀) z ∙ e
+    -- none of the newer ones, and the newest neither
+    nor : {w : Way} {ws : List Way} (n : ℕ) → stepTo k a s₀ (newest {w = w} {ws = ws}) ≡ false → ((y : Among ws) → after y < n → stepTo k a s₀ y ≡ false)
+        → (y : Among (w ∷ ws)) → after y < suc n → stepTo k a s₀ y ≡ false
+    nor n e h newest l = e
+    nor n e h (older y) l = h y (omega arith)
 
-    later-right : (c n : ℕ) (w : Writer) → stepTo k a s₀ n ≡ false → Right c n w → Right (suc c) (suc n) (later w)
-    later-right c n nobody e h = nor (λ j. suc n ≤ j + suc c) n e (λ j p l. h j (omega arith) l)
-    later-right c n (writer l pc b) e h =
+    later-right : (c : ℕ) (w : Way) (ws : List Way) (x : Writer) → stepTo k a s₀ (newest {w = w} {ws = ws}) ≡ false → Right c ws x → Right (suc c) (w ∷ ws) (later x)
+    later-right c w ws nobody e h = nor c e h
+    later-right c w ws (writer l pc b) e h =
         record {
-          i = h .i;
-          count = omega (arith, h .count);
+          step = older (h .step);
+          count = ap suc (h .count);
           recent = omega (arith, h .recent);
           did = h .did;
-          since = nor (λ j. h .i < j) n e (h .since);
+          since = nor (after (h .step)) e (h .since);
           address = h .address;
-          before = h .before;
+          before-it = h .before-it;
         }
 
-    record-right : (c n : ℕ) → AllAccepted (suc n) s₀ → (xs : List ℕ) → Right c n (newest k a xs) → Right (suc c) (suc n) (newest k a (xs ++ recordOf (forward n s₀)))
+    record-right : (c : ℕ) (w : Way) (ws : List Way) → AllAccepted (w ∷ ws) s₀ → (xs : List ℕ) → Right c ws (writerIn k a xs)
+        → Right (suc c) (w ∷ ws) (writerIn k a (xs ++ recordOf w (forward ws s₀)))
     unfolding follow
-    record-right c n acc xs h = subst (λ (x : Trail). Right (suc c) (suc n) (x .by)) (sym told-so) (go (stepTo k a s₀ n) refl)
+    record-right c w ws acc xs h = subst (λ (x : Trail). Right (suc c) (w ∷ ws) (x .by)) (sym told-so) (go (stepTo k a s₀ (newest {w = w} {ws = ws})) refl)
       where
-        g : Good (forward n s₀)
-        g = good-forward s₀ g₀ n (acc .0)
+        s : State
+        s = forward ws s₀
 
-        told-so : follow k a (xs ++ recordOf (forward n s₀)) (trail 0 nobody)
-            ≡ trail (forward n s₀ .pc) (pick (stepTo k a s₀ n) (writer 0 (forward n s₀ .pc) (byteAt k a (forward n s₀ .mem))) (later (newest k a xs)))
+        g : Good s
+        g = good-forward s₀ g₀ ws (acc .0)
+
+        told-so : follow k a (xs ++ recordOf w s) (trail 0 nobody)
+            ≡ trail (s .pc) (pick (storesTo k a (stepStores w s)) (writer 0 (s .pc) (byteAt k a (s .mem))) (later (writerIn k a xs)))
         told-so =
-            follow-append k a xs (recordOf (forward n s₀)) (trail 0 nobody)
-            ∙ ap (λ (x : Note). follow k a (map wordOf (stepStores (forward n s₀))) (told k a x (follow k a xs (trail 0 nobody)))) (note-mark (forward n s₀ .pc) (g .address))
-            ∙ stores-told (forward n s₀ .pc) (newest k a xs) (g .bytes) (stepped-forward s₀ g₀ n acc .late .makes)
+            follow-append k a xs (recordOf w s) (trail 0 nobody)
+            ∙ ap (λ (x : Note). follow k a (map wordOf (stepStores w s)) (told k a x (follow k a xs (trail 0 nobody)))) (note-mark (address s) (address-small g))
+            ∙ ap (λ (q : ℕ). follow k a (map wordOf (stepStores w s)) (trail q (later (writerIn k a xs)))) (ap (λ (t : State). t .pc) (flagged-parts (s .pc) (s .source) (s .mem) (g .address)))
+            ∙ stores-told (s .pc) (writerIn k a xs) (g .bytes) (stepped-forward s₀ g₀ w ws acc .late .makes)
 
-        go : (c₁ : Bool) → stepTo k a s₀ n ≡ c₁ → Right (suc c) (suc n) (pick c₁ (writer 0 (forward n s₀ .pc) (byteAt k a (forward n s₀ .mem))) (later (newest k a xs)))
+        go : (d : Bool) → storesTo k a (stepStores w s) ≡ d → Right (suc c) (w ∷ ws) (pick d (writer 0 (s .pc) (byteAt k a (s .mem))) (later (writerIn k a xs)))
         go true e =
-            record { i = n; count = omega arith; recent = omega arith; did = e; since = λ j p l. absurd (omega arith); address = refl; before = refl }
-        go false e = later-right c n (newest k a xs) e h
+            record {
+              step = newest;
+              count = refl;
+              recent = omega arith;
+              did = e;
+              since = λ y l. absurd (omega arith);
+              address = refl;
+              before-it = refl;
+            }
+        go false e = later-right c w ws (writerIn k a xs) e h
 
-    records-right : (c n : ℕ) → AllAccepted n s₀ → c ≤ n → Right c n (newest k a (records c n s₀))
+    records-right : (c : ℕ) (ws : List Way) → AllAccepted ws s₀ → c ≤ length ws → Right c ws (writerIn k a (records c ws s₀))
     unfolding follow
-    records-right zero n acc l = λ j p q. absurd (omega arith)
-    records-right (suc c) zero acc l = absurd (not-suc-le-zero l)
-    records-right (suc c) (suc n) acc l = record-right c n acc (records c n s₀) (records-right c n (acc .0) (omega arith))
+    records-right zero ws acc l = λ y q. absurd (omega arith)
+    records-right (suc c) [] acc l = absurd (not-suc-le-zero l)
+    records-right (suc c) (w ∷ ws) acc l = record-right c w ws acc (records c ws s₀) (records-right c ws (acc .0) (omega arith))
 
     -- a step that did not store there left the byte
-    byte-step : (n : ℕ) → AllAccepted (suc n) s₀ → stepTo k a s₀ n ≡ false → byteAt k a (forward (suc n) s₀ .mem) ≡ byteAt k a (forward n s₀ .mem)
-    byte-step n acc e =
-        let h : Stepped (forward n s₀) (stepStores (forward n s₀)) (forward (suc n) s₀) = stepped-forward s₀ g₀ n acc in
+    byte-step : (w : Way) (ws : List Way) → AllAccepted (w ∷ ws) s₀ → stepTo k a s₀ (newest {w = w} {ws = ws}) ≡ false
+        → byteAt k a (forward (w ∷ ws) s₀ .mem) ≡ byteAt k a (forward ws s₀ .mem)
+    byte-step w ws acc e =
+        let h : Stepped (forward ws s₀) (stepStores w (forward ws s₀)) (forward (w ∷ ws) s₀) = stepped-forward s₀ g₀ w ws acc in
         ap (byteAt k a) (h .rests) ∙ byte-after (h .late .makes) e
 
-    byte-since : (i n : ℕ) → AllAccepted n s₀ → i < n → ((j : ℕ) → i < j → j < n → stepTo k a s₀ j ≡ false)
-        → byteAt k a (forward n s₀ .mem) ≡ byteAt k a (forward (suc i) s₀ .mem)
-    byte-since i zero acc l h = absurd (not-suc-le-zero l)
-    byte-since i (suc n) acc l h = go (ltb i n) refl (λ b. byte-since i n (acc .0) b (λ j p r. h j p (omega arith)))
-      where
-        go : (c : Bool) → ltb i n ≡ c → (i < n → byteAt k a (forward n s₀ .mem) ≡ byteAt k a (forward (suc i) s₀ .mem))
-            → byteAt k a (forward (suc n) s₀ .mem) ≡ byteAt k a (forward (suc i) s₀ .mem)
-        go true q so =
-            let b : i < n = ltb-true i n q in
-            byte-step n acc (h n b (omega arith)) ∙ so b
-        go false q so =
-            let z : n ≡ i = omega (arith, ltb-false i n q) in
-            ap (λ (x : ℕ). byteAt k a (forward (suc x) s₀ .mem)) z
+    byte-since : {ws : List Way} (x : Among ws) → AllAccepted ws s₀ → ((y : Among ws) → after y < after x → stepTo k a s₀ y ≡ false)
+        → byteAt k a (forward ws s₀ .mem) ≡ byteAt k a (leftBy x s₀ .mem)
+    byte-since newest acc h = refl
+    byte-since (older {w} {ws} x) acc h =
+        byte-step w ws acc (h newest (omega arith)) ∙ byte-since x (acc .0) (λ y l. h (older y) (omega arith))
 
     -- ---- the answer
 
     module _ (h : Past) (m : Mem) (f : fits m ≡ true) (acc : AllAccepted (h .steps) s₀) where
       named-true : (left : ℕ) (w : Writer) → left ≡ byteAt k a (forward (h .steps) s₀ .mem) → Right (h .kept) (h .steps) w → True k a s₀ h m (named left w)
-      named-true left nobody e r = nobody-did f (λ i q. r i (q .recent) (q .made))
+      named-true left nobody e r = nobody-did f r
       named-true left (writer l pc b) e r =
-          let some : r .i < h .steps = omega (arith, r .count) in
-          let many : l ≡ h .steps - suc (r .i) = omega (arith, r .count) in
-          let now : left ≡ byteAt k a (forward (suc (r .i)) s₀ .mem) = e ∙ byte-since (r .i) (h .steps) acc some (r .since) in
-          rw (many, r .address, r .before, now) (that-did f (record { made = some; recent = r .recent }) (r .did) (r .since))
+          let now : left ≡ byteAt k a (leftBy (r .step) s₀ .mem) = e ∙ byte-since (r .step) acc (r .since) in
+          rw (← r .count, r .address, r .before-it, now) (that-did f (r .step) (r .recent) (r .did) (r .since))
 
 -- Of any cell, of any machine that steps and step-backs can leave: what is answered is true.
 pub who-true : (k : Kind) (a : ℕ) {s₀ : State} {h : Past} {s : State} → Good s₀ → Demand3 s₀ h s → True k a s₀ h (s .mem) (whoWrote k a (s .mem))
@@ -304,17 +304,17 @@ who-true k a {s₀} {h} {s} g d = go (fits (s .mem)) refl
     sure : whole (area (s .mem)) (usedWords (s .mem)) ≡ true
     sure = ap₂ whole z (d .words) ∙ records-whole s₀ g (h .kept) (h .steps) (d .accepted)
 
-    right : Right k a s₀ g (h .kept) (h .steps) (newest k a (usedWords (s .mem)))
-    right = subst (λ (ws : List ℕ). Right k a s₀ g (h .kept) (h .steps) (newest k a ws)) (sym (d .words)) (records-right k a s₀ g (h .kept) (h .steps) (d .accepted) (d .within))
+    right : Right k a s₀ g (h .kept) (h .steps) (writerIn k a (usedWords (s .mem)))
+    right = subst (λ (ws : List ℕ). Right k a s₀ g (h .kept) (h .steps) (writerIn k a ws)) (sym (d .words)) (records-right k a s₀ g (h .kept) (h .steps) (d .accepted) (d .within))
 
     go : (c : Bool) → fits (s .mem) ≡ c → True k a s₀ h (s .mem) (pick c (fitWho k a (s .mem)) (refusal (answerFor wrongLength)))
-    go true f = rw sure (named-true k a s₀ g h (s .mem) f (d .accepted) (byteAt k a (s .mem)) (newest k a (usedWords (s .mem)))
+    go true f = rw sure (named-true k a s₀ g h (s .mem) f (d .accepted) (byteAt k a (s .mem)) (writerIn k a (usedWords (s .mem)))
         (ap (λ (l : List ℕ). getD l a 0) (d .memories k)) right)
     go false f = unfit f
 
 -- so after any calls from an empty journal
 pub who-played : (k : Kind) (a : ℕ) (s₀ : State) → Good s₀ → s₀ .mem .used ≡ 0 → (os : List Op)
-    → True k a s₀ (history s₀ os s₀ (past 0 0)) (play os s₀ .mem) (whoWrote k a (play os s₀ .mem))
+    → True k a s₀ (history s₀ os s₀ (past [] 0)) (play os s₀ .mem) (whoWrote k a (play os s₀ .mem))
 who-played k a s₀ g z os = who-true k a g (demand3 s₀ g z os)
 
 -- 12 cannot come
@@ -326,14 +326,14 @@ Never12 (wrote n pc b c) = Unit {0}
 never-12 : {k : Kind} {a : ℕ} {s₀ : State} {h : Past} {m : Mem} {w : Wrote} → True k a s₀ h m w → Never12 w
 never-12 (unfit f) = λ e. omega arith
 never-12 (nobody-did f n) = tt
-never-12 (that-did f i d n) = tt
+never-12 (that-did f x r d n) = tt
 
 pub never-unsound : (k : Kind) (a : ℕ) {s₀ : State} {h : Past} {s : State} → Good s₀ → Demand3 s₀ h s → whoWrote k a (s .mem) ≡ refusal (answerFor noRecord) → ⊥
 never-unsound k a g d e = subst Never12 e (never-12 (who-true k a g d)) refl
 
 -- "Say "none kept" exactly when no kept step stored there.": only then, as `True` says, and always then
 pub none-exactly : {k : Kind} {a : ℕ} {s₀ : State} {h : Past} {m : Mem} {w : Wrote} → True k a s₀ h m w → fits m ≡ true
-    → ((i : ℕ) → Kept h i → stepTo k a s₀ i ≡ false) → w ≡ noneKept
+    → ((x : Among (h .steps)) → after x < h .kept → stepTo k a s₀ x ≡ false) → w ≡ noneKept
 none-exactly (unfit f) e z = absurd (false-true (sym f ∙ e))
 none-exactly (nobody-did f n) e z = refl
-none-exactly (that-did {i} f q d n) e z = absurd (false-true (sym (z i q) ∙ d))
+none-exactly (that-did f x r d n) e z = absurd (false-true (sym (z x r) ∙ d))

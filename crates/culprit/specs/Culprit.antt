@@ -2,13 +2,13 @@
 use mathlib.Core.Path.{_≡_}
 use mathlib.Core.Bool.{Bool, true, false}
 use mathlib.Core.List.{List, [], _∷_}
-use Prim.Native.Nat.{ℕ, zero, suc, _+_, _-_, _≤_, _<_}
+use Prim.Native.Nat.{ℕ, zero, suc, _%_, _<_}
 use lib.Dec.{eqb}
 use lib.ListN.{getD}
 use Rattle.rules.specs.Machine.{pick, _also_, Kind, Area, Mem, area, State, cells}
 use Rattle.rules.specs.Answers.{Answer, answerFor, wrongLength, noRecord}
 use Rattle.rules.specs.Journal.{kindNumber, Store, Note, stood, mark, nothing, note, sound, marks, usedWords}
-use Rattle.rules.specs.Calls.{fits, stepStores}
+use Rattle.rules.specs.Calls.{Way, fits, left, step, stepStores}
 use Rattle.rules.specs.Demands.{forward, Past}
 
 -- "Given a cell": by its kind and its address. Two names of one
@@ -44,10 +44,10 @@ pub record Trail : Type 0 where
 abbrev pub trail : ℕ → Writer → Trail
 trail pc w = record { pc = pc; by = w }
 
--- one word more, by what it says. "A store of an equal byte counts.": no byte is compared
+-- one word more, by what it says. "A store of an equal byte counts.": no byte is compared. A mark has the source flag above pc
 abbrev pub told : Kind → ℕ → Note → Trail → Trail
 told k a (stood l b c) t = trail (t .pc) (pick (sameCell k a l b) (stamped (t .pc) c (t .by)) (t .by))
-told k a (mark pc) t = trail pc (later (t .by))
+told k a (mark q) t = trail (q % 65536) (later (t .by))
 told k a nothing t = t
 
 -- the kept words, oldest first
@@ -55,8 +55,8 @@ unfoldable pub follow : Kind → ℕ → List ℕ → Trail → Trail
 follow k a [] t = t
 follow k a (w ∷ ws) t = follow k a ws (told k a (note w) t)
 
-abbrev pub newest : Kind → ℕ → List ℕ → Writer
-newest k a ws = follow k a ws (trail 0 nobody) .by
+abbrev pub writerIn : Kind → ℕ → List ℕ → Writer
+writerIn k a ws = follow k a ws (trail 0 nobody) .by
 
 -- ---- "12 if any record below the used count is unsound by step-back's rule or a word has no mark below it": so not, if
 
@@ -89,7 +89,7 @@ named left (writer n pc b) = wrote n pc b left
 
 -- "12 .. before anything is named; an empty journal gives "none kept""
 unfoldable pub answered : Area → Kind → ℕ → ℕ → List ℕ → Wrote
-answered z k a left ws = pick (whole z ws) (named left (newest k a ws)) (refusal (answerFor noRecord))
+answered z k a left ws = pick (whole z ws) (named left (writerIn k a ws)) (refusal (answerFor noRecord))
 
 -- of a machine whose parts fit
 abbrev pub fitWho : Kind → ℕ → Mem → Wrote
@@ -106,19 +106,37 @@ abbrev pub storesTo : Kind → ℕ → List Store → Bool
 storesTo k a [] = false
 storesTo k a (s ∷ ss) = pick (sameCell k a (s .kind) (s .at)) true (storesTo k a ss)
 
--- of the steps from s₀, counted from 0, the i-th stored there
-abbrev pub stepTo : Kind → ℕ → State → ℕ → Bool
-stepTo k a s₀ i = storesTo k a (stepStores (forward i s₀))
+-- one of these steps, newest first
+pub data Among : List Way → Type 0 where
+  newest : {w : Way} {ws : List Way} → Among (w ∷ ws)
+  older : {w : Way} {ws : List Way} → Among ws → Among (w ∷ ws)
 
--- it is one of those that are kept: the newest
-pub record Kept (h : Past) (i : ℕ) : Type 0 where
-  pub made : i < h .steps
-  pub recent : h .steps ≤ i + h .kept
+-- how many came after it
+abbrev pub after : {ws : List Way} → Among ws → ℕ
+after newest = 0
+after (older x) = suc (after x)
 
--- What is true of an answer about the machine m, which the steps of h have led to from s₀
+-- its way: an instruction, or 02, item 10, a tick; and the state that the steps before it led to from s₀
+abbrev pub way : {ws : List Way} → Among ws → Way
+way (newest {w}) = w
+way (older x) = way x
+
+abbrev pub before : {ws : List Way} → Among ws → State → State
+before (newest {ws = ws}) s₀ = forward ws s₀
+before (older x) s₀ = before x s₀
+
+-- the state that it left
+abbrev pub leftBy : {ws : List Way} → Among ws → State → State
+leftBy x s₀ = left (step (way x) (before x s₀))
+
+-- it stored there
+abbrev pub stepTo : Kind → ℕ → State → {ws : List Way} → Among ws → Bool
+stepTo k a s₀ x = storesTo k a (stepStores (way x) (before x s₀))
+
+-- What is true of an answer about the machine m, which the steps of h have led to from s₀; those that are kept are the newest
 pub data True (k : Kind) (a : ℕ) (s₀ : State) (h : Past) (m : Mem) : Wrote → Type 0 where
   unfit : fits m ≡ false → True k a s₀ h m (refusal (answerFor wrongLength))
-  nobody-did : fits m ≡ true → ((i : ℕ) → Kept h i → stepTo k a s₀ i ≡ false) → True k a s₀ h m noneKept
-  that-did : {i : ℕ} → fits m ≡ true → Kept h i → stepTo k a s₀ i ≡ true → ((j : ℕ) → i < j → j < h .steps → stepTo k a s₀ j ≡ false)
-      → True k a s₀ h m
-      (wrote (h .steps - suc i) (forward i s₀ .pc) (byteAt k a (forward i s₀ .mem)) (byteAt k a (forward (suc i) s₀ .mem)))
+  nobody-did : fits m ≡ true → ((x : Among (h .steps)) → after x < h .kept → stepTo k a s₀ x ≡ false) → True k a s₀ h m noneKept
+  that-did : fits m ≡ true → (x : Among (h .steps)) → after x < h .kept → stepTo k a s₀ x ≡ true
+      → ((y : Among (h .steps)) → after y < after x → stepTo k a s₀ y ≡ false)
+      → True k a s₀ h m (wrote (after x) (before x s₀ .pc) (byteAt k a (before x s₀ .mem)) (byteAt k a (leftBy x s₀ .mem)))

@@ -12,7 +12,7 @@ use Rattle.lines.specs.Lines.{Part, grom, pad, vdp, reg, size, Line, sets, jump
 
 -- the same machine with other memories
 abbrev pub remade : (Mem → Mem) → State → State
-remade f s = state (s .pc) (f (s .mem))
+remade f s = state (s .pc) (s .source) (f (s .mem))
 
 -- image, pad, VDP RAM and registers beside the journal
 abbrev pub filled : List ℕ → List ℕ → List ℕ → List ℕ → Mem → Mem
@@ -27,7 +27,7 @@ placed reg at bs = remade (λ m. filled (m .image) (m .pad) (m .vram) (laid (m .
 
 abbrev pub obeyed : Line → State → State
 obeyed (sets p at bs) s = placed p at bs s
-obeyed (jumps n) s = state n (s .mem)
+obeyed (jumps n) s = state n (s .source) (s .mem)
 obeyed (runs n) s = run n s .end
 obeyed bad s = s
 
@@ -79,10 +79,10 @@ unfoldable pub told : ℕ → List (List ℕ) → State → List ℕ
 told k [] s = []
 told k (l ∷ ls) s = printed k (heard l) s ++ cond (says (heard l)) (told (suc k) ls (obeyed (heard l) s)) []
 
--- "Its image is 32,768 zeros, its journal 16,384 words; all not set is 0." No group of it is named writable, and no line names one; no ring is asked for.
+-- "Its image is 32,768 zeros, its journal 16,384 words; all not set is 0." No group of it is named writable, and no line names one; no ring is asked for, and no tick is made.
 abbrev pub start : State
 start =
-    state 0 (mem (replicate (size grom) 0) 0 (replicate (size pad) 0) (replicate (size vdp) 0) (replicate (size reg) 0) (replicate 16384 0) 0 0 0 false)
+    state 0 false (mem (replicate (size grom) 0) 0 (replicate (size pad) 0) (replicate (size vdp) 0) (replicate (size reg) 0) (replicate 16384 0) 0 0 0 false)
 
 -- "The program reads standard input", and what it prints
 unfoldable pub whole : List ℕ → List ℕ

@@ -20,9 +20,9 @@ use Rattle.desk.specs.declared.obey.Stand.{Stand}
 use Rattle.desk.specs.declared.turns.Place.{Place}
 use Rattle.desk.specs.declared.turns.Turn.{Turn}
 
--- "all not set is 0": pc, the words of the journal that are used, and the writable groups; and the journal is no ring
+-- "all not set is 0": pc, the words of the journal that are used, the writable groups and the source flag; and the journal is no ring
 abbrev pub outset : At
-outset = record { pc = 0; used = 0; ring = false; place = 0; writable = 0 }
+outset = record { pc = 0; used = 0; ring = false; place = 0; writable = 0; source = false }
 
 -- the state that a function leaves, where q are the parts that it sees: the parts as they are, and where the machine stands beside them
 abbrev pub standing : (q : Parts) → Rest q → At → State

@@ -33,6 +33,7 @@ pub fn first() -> At
         ring: false,
         place: 0,
         writable: 0,
+        source: false,
     }
 }
 

@@ -1,3 +1,4 @@
 pub mod Dumps
 pub mod Meaning
+pub mod Ticks
 pub mod Who

@@ -2,7 +2,7 @@
 use mathlib.Core.Path.{_≡_}
 use mathlib.Core.Bool.{not}
 use mathlib.Core.List.{List, [], _∷_}
-use Prim.Native.Nat.{ℕ}
+use Prim.Native.Nat.{ℕ, _≤_}
 use lib.Dec.{eqb}
 use lib.ListN.{length, getD, take, drop}
 use denote.Ref.{now}
@@ -13,12 +13,13 @@ use Rattle.machine.specs.Meaning.{Lent, Parts, unseenAll}
 use Rattle.bench.specs.declared.at.At.{At}
 use Rattle.bench.specs.Meaning.{Returned, standsAt, Outcome, stepping, backing, Returns}
 
--- ---- where the machine stands, by the numbers that are lent: any but 0 asks for a ring
+-- ---- where the machine stands, by the numbers that are lent: any but 0 asks for a ring, and any but 0 is the source VDP RAM
 
-abbrev pub stands : ℕ → ℕ → ℕ → ℕ → ℕ → At
-stands pc used ring place w = record { pc = pc; used = used; ring = not (eqb ring 0); place = place; writable = w }
+abbrev pub stands : ℕ → ℕ → ℕ → ℕ → ℕ → ℕ → At
+stands pc used ring place w source =
+    record { pc = pc; used = used; ring = not (eqb ring 0); place = place; writable = w; source = not (eqb source 0) }
 
--- ---- steps: the answer, and `out` with pc, used words, steps, stores, address and place
+-- ---- steps: the answer, and `out` with pc, used words, steps, stores, address, place and the source flag
 
 pub record Numbers : Type 0 where
   pub answer : ℕ
@@ -29,12 +30,16 @@ unfoldable pub heard : ℕ → ℕ → Returned Numbers → calls.Report
 heard ring w x =
     let out : List ℕ = x .result .out in
     calls.report (saying (x .result .answer) (getD out 4 0)) (getD out 2 0) (getD out 3 0)
-    (standsAt x (stands (getD out 0 0) (getD out 1 0) ring (getD out 5 0) w))
+    (standsAt x (stands (getD out 0 0) (getD out 1 0) ring (getD out 5 0) w (getD out 6 0)))
 
--- an address, the used words, the mode, the place and the writable groups go in; the answer and `out` are what the rules say of the parts lent
-abbrev pub Hears : (State → calls.Report) → (Parts → Parts) → ℕ → ℕ → ℕ → ℕ → ℕ → ℕ → Lent → Type 0
-Hears f parts pc used ring place w answer out =
-    Returns (heard ring w) f (parts unseenAll) (stands pc used ring place w) (record { answer = answer; out = now (out .exit) })
+-- the flag comes out as 0 or 1
+abbrev pub Flagged : List ℕ → Type 0
+Flagged out = getD out 6 0 ≤ 1
+
+-- an address, the used words, the mode, the place, the writable groups and the source flag go in; the answer and `out` are what the rules say of the parts lent
+abbrev pub Hears : (State → calls.Report) → (Parts → Parts) → ℕ → ℕ → ℕ → ℕ → ℕ → ℕ → ℕ → Lent → Type 0
+Hears f parts pc used ring place w source answer out =
+    Flagged (now (out .exit)) × Returns (heard ring w) f (parts unseenAll) (stands pc used ring place w source) (record { answer = answer; out = now (out .exit) })
 
 -- a reply as a report: one step where it was done, none where it was refused
 abbrev pub tallied : calls.Reply → ℕ → ℕ → calls.Report
@@ -45,7 +50,7 @@ unfoldable pub counted : Outcome → calls.Report
 counted o = tallied (o .reply) (o .address) (o .stores)
 
 abbrev pub oneStep : State → calls.Report
-oneStep s = counted (stepping s)
+oneStep s = counted (stepping calls.instruction s)
 
 abbrev pub oneBack : State → calls.Report
 oneBack s = counted (backing s)

@@ -1,5 +1,6 @@
 // The public calls for C and Rust. Nothing is asked of a caller but what the types say.
 pub mod dump;
+pub mod ticks;
 pub mod who;
 
 use bench::at::At;
@@ -15,9 +16,16 @@ ghost use Rattle.export.specs.Meaning.{Hears, oneStep, oneBack, Shows, s
 
 // ---- steps
 
-// The six numbers in their order.
-fn tell(out: &mut [u64; 6], at: At, steps: u64, stores: u64, address: u16)
-    ensures { λ _. ⌜ now (out .exit) ≡ at .pc ∷ at .used ∷ steps ∷ stores ∷ address ∷ at .place ∷ [] ⌝ }
+// A flag as a number.
+fn flag(b: bool) -> u64
+    ensures { λ r. ⌜ r ≡ pick b 1 0 ⌝ }
+{
+    if b { 1 } else { 0 }
+}
+
+// The seven numbers in their order.
+pub(crate) fn tell(out: &mut [u64; 7], at: At, steps: u64, stores: u64, address: u16)
+    ensures { λ _. ⌜ now (out .exit) ≡ at .pc ∷ at .used ∷ steps ∷ stores ∷ address ∷ at .place ∷ pick (at .source) 1 0 ∷ [] ⌝ }
 {
     *out = [
         at.pc as u64,
@@ -26,11 +34,12 @@ fn tell(out: &mut [u64; 6], at: At, steps: u64, stores: u64, address: u16)
         stores,
         address as u64,
         at.place as u64,
+        flag(at.source),
     ];
 }
 
 // A call that was done is one step.
-fn steps_of(answer: u8) -> u64
+pub(crate) fn steps_of(answer: u8) -> u64
     ensures { λ r. ⌜ r ≡ pick (eqb answer 0) 1 0 ⌝ }
 {
     if answer == 0 { 1 } else { 0 }
@@ -49,9 +58,10 @@ pub extern "C" fn argolythe_step(
     ring: u8,
     place: usize,
     writable: u8,
-    out: &mut [u64; 6],
+    source: u8,
+    out: &mut [u64; 7],
 ) -> u8
-    ensures { λ r. ⌜ Hears oneStep (Image image & Groups writable & Pad pad & Vram vdp & Regs reg & Journal journal) pc used ring place writable r out ⌝ }
+    ensures { λ r. ⌜ Hears oneStep (Image image & Groups writable & Pad pad & Vram vdp & Regs reg & Journal journal) pc used ring place writable source r out ⌝ }
 {
     argolythe_run(
         image,
@@ -64,6 +74,7 @@ pub extern "C" fn argolythe_step(
         ring,
         place,
         writable,
+        source,
         1,
         out,
     )
@@ -82,18 +93,21 @@ pub extern "C" fn argolythe_run(
     ring: u8,
     place: usize,
     writable: u8,
+    source: u8,
     n: u32,
-    out: &mut [u64; 6],
+    out: &mut [u64; 7],
 ) -> u8
-    ensures { λ r. ⌜ Hears (run n) (Image image & Groups writable & Pad pad & Vram vdp & Regs reg & Journal journal) pc used ring place writable r out ⌝ }
+    ensures { λ r. ⌜ Hears (run n) (Image image & Groups writable & Pad pad & Vram vdp & Regs reg & Journal journal) pc used ring place writable source r out ⌝ }
 {
     let ring = ring != 0;
+    let source = source != 0;
     let start = At {
         pc,
         used,
         ring,
         place,
         writable,
+        source,
     };
     let r = bench::runs::run(image, pad, vdp, reg, journal, start, n);
     let steps = r.steps as u64;
@@ -115,17 +129,20 @@ pub extern "C" fn argolythe_step_back(
     ring: u8,
     place: usize,
     writable: u8,
-    out: &mut [u64; 6],
+    source: u8,
+    out: &mut [u64; 7],
 ) -> u8
-    ensures { λ r. ⌜ Hears oneBack (Image image & Groups writable & Pad pad & Vram vdp & Regs reg & Journal journal) pc used ring place writable r out ⌝ }
+    ensures { λ r. ⌜ Hears oneBack (Image image & Groups writable & Pad pad & Vram vdp & Regs reg & Journal journal) pc used ring place writable source r out ⌝ }
 {
     let ring = ring != 0;
+    let source = source != 0;
     let start = At {
         pc,
         used,
         ring,
         place,
         writable,
+        source,
     };
     let r = bench::walk::step_back(image, pad, vdp, reg, journal, start);
     let steps = steps_of(r.answer);

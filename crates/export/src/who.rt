@@ -86,7 +86,7 @@ pub extern "C" fn argolythe_who_wrote(
     at: u16,
     out: &mut [u64; 5],
 ) -> u8
-    ensures { λ r. ⌜ SaysWho memory at image pad vdp reg journal (stands 0 used ring place writable) r out ⌝ }
+    ensures { λ r. ⌜ SaysWho memory at image pad vdp reg journal (stands 0 used ring place writable 0) r out ⌝ }
 {
     let ring = ring != 0;
     let start = At {
@@ -95,6 +95,7 @@ pub extern "C" fn argolythe_who_wrote(
         ring,
         place,
         writable,
+        source: false,
     };
     let kind = kind_in(memory);
     let w = culprit::call::who_wrote(image, pad, vdp, reg, journal, start, kind, at);

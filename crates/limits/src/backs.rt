@@ -18,6 +18,7 @@ fn try_back(what: &[u8], image: &mut [u8], low: u32, high: u32, used: usize) {
         ring: false,
         place: 0,
         writable: 0x06,
+        source: false,
     };
     let b = bench::walk::step_back(image, &mut pad, &mut vram, &mut regs, &mut journal, at);
     shown::show_run(what, shown::as_run(b), &pad, &vram, &regs);
@@ -42,7 +43,7 @@ pub(crate) fn all() {
     try_word(b"a mark, and GROM >2000 had >55\n", 0x8020_0055);
     try_word(b"a mark, and GROM >3FFF had >55\n", 0x803F_FF55);
     in_two(b"no mark below\n", 0x0000_0055, 0x0000_0155, 2);
-    in_two(b"a mark with a surplus bit\n", 0x6001_0042, 0x0000_0055, 2);
+    in_two(b"a mark with a surplus bit\n", 0x6002_0042, 0x0000_0055, 2);
     try_word(b"pad >E0\n", 0x0000_E055);
     try_word(b"VDP >4000\n", 0x2040_0055);
     try_word(b"register 8\n", 0x4000_0855);

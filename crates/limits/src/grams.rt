@@ -88,6 +88,7 @@ fn try_card(what: &[u8], was: &[u8], image: &mut [u8], journal: &mut [u32], writ
         ring: false,
         place: 0,
         writable,
+        source: false,
     };
     let r = bench::runs::run(image, &mut pad, &mut vram, &mut regs, journal, at, n);
     shown::show_run(what, r, &pad, &vram, &regs);

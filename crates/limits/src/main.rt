@@ -27,6 +27,7 @@ fn try_step(what: &[u8], image: &mut [u8], journal: &mut [u32], used: usize) {
         ring: false,
         place: 0,
         writable: 0,
+        source: false,
     };
     let r = bench::runs::run(image, &mut pad, &mut vram, &mut regs, journal, at, 1);
     shown::show_run(what, r, &pad, &vram, &regs);

@@ -15,6 +15,7 @@ fn at_rest(pc: u16, ring: bool, place: usize) -> At {
         ring,
         place,
         writable: 0,
+        source: false,
     }
 }
 

@@ -6,10 +6,10 @@ use Prim.Native.Nat.{ℕ, zero, suc, _+_, _-_, _/_, _%_, _^_, _≤_, _<_}
 use native.Mathlib.Nat.{sub-self}
 use native.Mathlib.Numerals.{add-one}
 use native.Mathlib.Omega.{arith}
-use lib.Dec.{ltb}
+use lib.Dec.{ltb, leb}
 use lib.ListN.{length, getD, set}
-use borrow.Author.Tests.{ne-eqb, lt-ltb, le-ltb, ltb-true}
-use Rattle.rules.specs.Machine.{_also_, Kind, grom, Area, extent, writable, Mem, mem, put, beside}
+use borrow.Author.Tests.{ne-eqb, lt-ltb, le-ltb, ltb-true, leb-true, leb-false}
+use Rattle.rules.specs.Machine.{_also_, flagged, Kind, grom, Area, extent, writable, Mem, mem, put, beside}
 use Rattle.rules.specs.Journal.{kindNumber, markWord, lay, Note, mark, stoodIn, noteOf, note, sound, restore, zeroTop, undoTop, undo}
 use Rattle.rules.specs.Answers.{Answer, saying, answerFor, noRoom}
 use Rattle.rules.specs.Rules.{then, room, spare}
@@ -64,7 +64,7 @@ pub sound-kind : (z : Area) (k : Kind) (w n at : ℕ) → n ≡ w / 2 ^ 29 → n
     → (ltb at (extent z k) also writable z k at) ≡ sound z (note w)
 sound-kind z k w n at e f h = rw (h, note-of-kind k w n e f)
 
-pub sound-mark : (z : Area) (w n low : ℕ) → n ≡ w / 2 ^ 29 → n ≡ 3 → low ≡ w % 2 ^ 29 → ltb low 65536 ≡ sound z (note w)
+pub sound-mark : (z : Area) (w n low : ℕ) → n ≡ w / 2 ^ 29 → n ≡ 3 → low ≡ w % 2 ^ 29 → ltb low 131072 ≡ sound z (note w)
 sound-mark z w n low e f h = rw (h, note-of-mark w n e f)
 
 -- of no kind
@@ -176,6 +176,11 @@ passed-cell z (suc (suc (suc zero))) low f x h = absurd (x refl)
 passed-cell z (suc (suc (suc (suc zero)))) low f x h = refl
 passed-cell z (suc (suc (suc (suc (suc n))))) low f x h = absurd (false-true h)
 
+-- a mark's address is that of its low sixteen bits and of the flag above them
+address-of : (w pc : ℕ) → w % 2 ^ 29 < 131072 → pc ≡ w % 65536 → (v : Bool) → v ≡ leb 65536 (w % 2 ^ 29) → w % 2 ^ 29 ≡ flagged pc v
+address-of w pc h p true r = omega (arith, leb-true 65536 (w % 2 ^ 29) (sym r))
+address-of w pc h p false r = omega (arith, leb-false 65536 (w % 2 ^ 29) (sym r))
+
 -- the search stands at u, with `all` words to search, at whose top is the word w: a turn that goes on, and the three that end it
 module _ (z : Area) (all u : ℕ) (j : List ℕ) (f : Find) (e : f ≡ higher (all - u) (scan z u j)) where
   turned : (w : ℕ) → (u ≡ 0 → ⊥) → w ≡ getD j (u - 1) 0 → f ≡ higher (all - u) (seen z (note w) (scan z (u - 1) j))
@@ -191,14 +196,14 @@ module _ (z : Area) (all u : ℕ) (j : List ℕ) (f : Find) (e : f ≡ higher (a
       ∙ ap (higher (all - u)) (seen-sound z (note w) below s ∙ passed-cell z (w / 2 ^ 29) (w % 2 ^ 29) below (λ y. x (k ∙ y)) s)
       ∙ higher-further (all - u) below ∙ ap (λ (d : ℕ). higher d below) more
 
-  pub scan-mark : (w n d : ℕ) → (u ≡ 0 → ⊥) → u ≤ all → w ≡ getD j (u - 1) 0 → sound z (note w) ≡ true → n ≡ w / 2 ^ 29 → n ≡ 3 → d ≡ all - (u - 1)
-      → foundAt d (w % 65536) ≡ f
+  pub scan-mark : (w n d pc : ℕ) (v : Bool) → (u ≡ 0 → ⊥) → u ≤ all → w ≡ getD j (u - 1) 0 → sound z (note w) ≡ true → n ≡ w / 2 ^ 29 → n ≡ 3 → d ≡ all - (u - 1)
+      → pc ≡ w % 65536 → v ≡ leb 65536 (w % 2 ^ 29) → foundAt d (flagged pc v) ≡ f
   unfolding higher foundAt
-  scan-mark w n d h l q s k x y =
+  scan-mark w n d pc v h l q s k x y p r =
       let ne : d ≡ 0 → ⊥ = λ v. omega arith in
       let more : all - u + 1 ≡ d = omega arith in
-      let small : w % 2 ^ 29 < 65536 = ltb-true (w % 2 ^ 29) 65536 (sound-mark z w n (w % 2 ^ 29) k x refl ∙ s) in
-      let low : w % 2 ^ 29 ≡ w % 65536 = omega arith in
+      let small : w % 2 ^ 29 < 131072 = ltb-true (w % 2 ^ 29) 131072 (sound-mark z w n (w % 2 ^ 29) k x refl ∙ s) in
+      let low : w % 2 ^ 29 ≡ flagged pc v = address-of w pc small p v r in
       let below : Find = scan z (u - 1) j in
       rw (ne-eqb d 0 ne)
       (sym (turned w h q ∙ ap (higher (all - u)) (seen-sound z (note w) below s ∙ ap (λ (v : Note). passed v below) (note-of-mark w n k x)) ∙ ap₂ found more low))

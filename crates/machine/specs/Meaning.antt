@@ -7,7 +7,7 @@ use lib.Dec.{eqb}
 use lib.ListN.{length, set}
 use denote.Ref.{RefT, now}
 use denote.Triple.Both.{Both}
-use Rattle.rules.specs.Machine.{pick, bit, Kind, cpu, vdp, register, grom, upon, group, size, reach, areaOf, Mem, mem}
+use Rattle.rules.specs.Machine.{pick, bit, Kind, cpu, vdp, register, grom, upon, group, size, reach, areaOf, flagged, Mem, mem}
 use Rattle.rules.specs.Rules.{Rule, Deed, Out, got, stopped, then, after, valued, peek, poke}
 use Rattle.rules.specs.Answers as answers
 use Rattle.rules.specs.Answers.{Answer, saying}
@@ -16,7 +16,7 @@ use Rattle.rules.specs.Journal.{turned}
 use Rattle.ring.specs.declared.book.Book.{Book}
 use Rattle.machine.specs.declared.state.Now.{Now}
 use Rattle.machine.specs.declared.answers.Why.{Why}
-use Rattle.machine.specs.declared.answers.Why.the-variants.{Ended, NoSuch, NeedsHost, OffCpu, OffVdp, OffGrom, OffStack, TooLong, NoRoom, WrongLength, NoRecord, OffRegister, TooCoarse, ReadOnly}
+use Rattle.machine.specs.declared.answers.Why.the-variants.{Ended, NoSuch, NeedsHost, OffCpu, OffVdp, OffGrom, OffStack, TooLong, NoRoom, WrongLength, NoRecord, OffRegister, TooCoarse, ReadOnly, OutputFull}
 use Rattle.machine.specs.declared.journal.Mark.{Mark}
 use Rattle.machine.specs.declared.memory.Memory.{Memory}
 use Rattle.machine.specs.declared.memory.Memory.the-variants.{Cpu, Vdp, Register, Grom}
@@ -38,6 +38,7 @@ whyOf NoRecord = answers.noRecord
 whyOf OffRegister = answers.offRegister
 whyOf TooCoarse = answers.tooCoarse
 whyOf ReadOnly = answers.readOnly
+whyOf OutputFull = answers.outputFull
 
 -- ---- the state, with the memories beside it, as a machine of the rules
 
@@ -221,10 +222,10 @@ Does r f m n = Gives tt r f m n
 abbrev pub Leaves : {A : Type 0} → Rule A → Rule A → (Parts → Parts) → Now → Now → Type 0
 Leaves r q f m n = (rest : Rest (f unseenAll)) → Owes (start (f unseenAll) rest m) r (end (f unseenAll) rest n) q
 
--- the mark of a step that began at pc is taken
+-- the mark of a step that began at an address, with its flag above it, is taken
 abbrev pub Marks : ℕ → (Parts → Parts) → Now → Now → Type 0
-Marks pc f m n =
-    (rest : Rest (f unseenAll)) → outOf (end (f unseenAll) rest n) ≡ then (outOf (start (f unseenAll) rest m)) (λ _ pc₁ m₁. calls.takeMark pc pc₁ m₁)
+Marks a f m n =
+    (rest : Rest (f unseenAll)) → outOf (end (f unseenAll) rest n) ≡ then (outOf (start (f unseenAll) rest m)) (λ _ pc₁ m₁. calls.takeMark a pc₁ m₁)
 
 -- the memories become what a function makes of them, and the journal's book b becomes c
 abbrev pub Became : (Mem → Mem) → (Parts → Parts) → Book → Book → Type 0
@@ -312,11 +313,11 @@ Puts a b s = now (s .exit) ≡ set (now (s .entry)) a b
 
 -- 0 words: there is no sound record
 unfoldable pub foundAt : ℕ → ℕ → calls.Find
-foundAt n pc = pick (eqb n 0) calls.lost (calls.found n pc)
+foundAt n a = pick (eqb n 0) calls.lost (calls.found n a)
 
 abbrev pub found : Mark → calls.Find
-found r = foundAt (r .words) (r .pc)
+found r = foundAt (r .words) (flagged (r .pc) (r .source))
 
--- it is found among the used words of a journal, by an image of n bytes and its writable groups; or its address is 0
+-- it is found among the used words of a journal, by an image of n bytes and its writable groups; or its address and flag are 0
 abbrev pub Finds : ℕ → ℕ → Lent → Book → Mark → Type 0
-Finds n w j b r = (found r ≡ calls.scan (areaOf n w) (b .used) (turned (b .ring) (b .place) (now (j .entry)))) × (r .words ≡ 0 → r .pc ≡ 0)
+Finds n w j b r = (found r ≡ calls.scan (areaOf n w) (b .used) (turned (b .ring) (b .place) (now (j .entry)))) × (r .words ≡ 0 → (r .pc ≡ 0) × (r .source ≡ false))

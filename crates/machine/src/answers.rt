@@ -33,6 +33,8 @@ pub enum Why {
     TooCoarse,
     // 02, item 9: "group not writable"
     ReadOnly,
+    // 02, item 10: "output full"
+    OutputFull,
 }
 
 pub fn number(why: Why) -> u8
@@ -53,6 +55,7 @@ pub fn number(why: Why) -> u8
         Why::OffRegister => 13,
         Why::TooCoarse => 23,
         Why::ReadOnly => 24,
+        Why::OutputFull => 26,
     }
 }
 
@@ -75,5 +78,6 @@ pub fn address(why: Why) -> u16
         Why::OffRegister => 0,
         Why::TooCoarse => 0,
         Why::ReadOnly => 0,
+        Why::OutputFull => 0,
     }
 }

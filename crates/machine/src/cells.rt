@@ -35,5 +35,11 @@ pub const COLUMN: usize = 0x7F;
 // ">C0 and >C1 random seed"
 pub const SEED: usize = 0xC0;
 
+// 02, item 10: "the pad word at the destination goes to >CC": the address of a sound list
+pub const LIST: usize = 0xCC;
+
+// "then 1 to >CE": its count of ticks
+pub const COUNT: usize = 0xCE;
+
 // ">D4 copy of VDP register 1"
 pub const REGISTER_COPY: usize = 0xD4;

@@ -9,21 +9,21 @@ use ring::book::Book;
 ghost use mathlib.Core.Path.{_≡_};
 ghost use Prim.Native.Nat.{_≤_};
 ghost use lib.ListN.{length};
-ghost use Rattle.rules.specs.Machine.{areaOf};
+ghost use Rattle.rules.specs.Machine.{areaOf, flagged};
 ghost use Rattle.ring.specs.declared.book.Book as declared;
 ghost use Rattle.rules.specs.Journal as words;
 ghost use Rattle.rules.specs.Journal.{note, restore, undoTop};
 ghost use Rattle.machine.specs.Meaning.{_&_, Image, Pad, Vram, Regs, Journal, Marks, Puts, Became, Finds};
 
-// The mark word of a step that began at `pc`.
-pub fn take_mark(journal: &mut [u32], m: Now, pc: u16) -> Now
-    ensures { λ r. ⌜ Marks pc (Journal journal) m r ⌝ }
+// The mark word of a step that began at `pc` with this source flag.
+pub fn take_mark(journal: &mut [u32], m: Now, pc: u16, source: bool) -> Now
+    ensures { λ r. ⌜ Marks (flagged pc source) (Journal journal) m r ⌝ }
 {
     let book = m.book;
     if m.answer != 0 {
         return m;
     }
-    let laid = book::lay_round(journal, book, number::words::mark_of(pc));
+    let laid = book::lay_round(journal, book, number::words::mark_of(pc, source));
     let kept = laid.book;
     if !laid.done {
         return state::refused(state::keeping(m, kept), Why::NoRoom);
@@ -129,7 +129,7 @@ pub fn sound(w: u32, size: usize, groups: u8) -> bool
         return at < cells::REGISTERS;
     }
     if kind == 3 {
-        return number::words::under_kind(w) < 65536;
+        return number::words::under_kind(w) < 131072;
     }
     if kind != 4 {
         return false;
@@ -140,10 +140,11 @@ pub fn sound(w: u32, size: usize, groups: u8) -> bool
     grom::writable(groups, at)
 }
 
-// The newest mark: how many words it and those above it are, 0 where there is no sound record, and its address.
+// The newest mark: how many words it and those above it are, 0 where there is no sound record, its address and its source flag.
 pub struct Mark {
     pub words: usize,
     pub pc: u16,
+    pub source: bool,
 }
 
 pub fn find(journal: &[u32], b: Book, size: usize, groups: u8) -> Mark
@@ -157,15 +158,24 @@ pub fn find(journal: &[u32], b: Book, size: usize, groups: u8) -> Mark
         let w = book::word_at(journal, b, top);
         let fine = sound(w, size, groups);
         if !fine {
-            return Mark { words: 0, pc: 0 };
+            return Mark {
+                words: 0,
+                pc: 0,
+                source: false,
+            };
         }
         let kind = number::words::kind_of(w);
         if kind == 3 {
             let words = used - top;
             let pc = (w % 65536) as u16;
-            return Mark { words, pc };
+            let source = 65536 <= number::words::under_kind(w);
+            return Mark { words, pc, source };
         }
         u = top;
     }
-    Mark { words: 0, pc: 0 }
+    Mark {
+        words: 0,
+        pc: 0,
+        source: false,
+    }
 }

@@ -1,7 +1,7 @@
 // Words of two bytes, and the journal's words, made and taken apart by shifts and masks.
 ghost use mathlib.Core.Path.{_≡_};
 ghost use Prim.Native.Nat.{_+_, _*_, _/_, _%_, _^_, _<_};
-ghost use Rattle.rules.specs.Machine.{joined, highByte, lowByte};
+ghost use Rattle.rules.specs.Machine.{joined, highByte, lowByte, flagged};
 ghost use Rattle.rules.specs.Journal.{markWord};
 
 // A word of its high byte and its low one.
@@ -31,10 +31,13 @@ pub fn pack(kind: u32, at: u32, b: u8) -> u32
     (kind << 29) | ((at << 8) | (b as u32))
 }
 
-// The journal word of a mark.
-pub fn mark_of(pc: u16) -> u32
-    ensures { λ r. ⌜ r ≡ markWord pc ⌝ }
+// The journal word of a mark: the program address, and the source flag above it.
+pub fn mark_of(pc: u16, source: bool) -> u32
+    ensures { λ r. ⌜ r ≡ markWord (flagged pc source) ⌝ }
 {
+    if source {
+        return 0x6001_0000 | (pc as u32);
+    }
     0x6000_0000 | (pc as u32)
 }
 

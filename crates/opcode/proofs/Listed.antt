@@ -10,7 +10,7 @@ use lib.Dec.{ltb}
 use borrow.Author.Tests.{ltb-true, lt-ltb, le-ltb}
 use Rattle.rules.specs.Machine.{pick, _also_, bit}
 use Rattle.rules.specs.Answers.{noSuch, needsHost, ended}
-use Rattle.rules.specs.Opcodes.{Class, stops, does, gramClass, moveClass, classOf}
+use Rattle.rules.specs.Opcodes.{Class, stops, does, starts, gramClass, moveClass, classOf}
 use Rattle.rules.specs.Opcodes.{rtn, rtnc, rand, back, long, call, all, fmt, test, move, branch, one, fetch, case, push, two, mul, div, ex, coinc}
 use Rattle.rules.specs.Opcodes.{high, greater, carry, overflow, abs, neg, inv, clr, cz, inc, dec, inct, dect}
 use Rattle.rules.specs.Opcodes.{add, sub, and, or, xor, st, ch, che, cgt, cge, ceq, clog, sra, sll, srl, src}
@@ -34,7 +34,7 @@ runs imm w op =
     ∷ (0xC1, does (ex w)) ∷ (0xC3, stops noSuch) ∷ (0xC7, does (two ch imm w)) ∷ (0xCB, does (two che imm w)) ∷ (0xCF, does (two cgt imm w))
     ∷ (0xD3, does (two cge imm w)) ∷ (0xD7, does (two ceq imm w)) ∷ (0xDB, does (two clog imm w)) ∷ (0xDF, does (two sra imm w))
     ∷ (0xE3, does (two sll imm w)) ∷ (0xE7, does (two srl imm w)) ∷ (0xEB, does (two src imm w)) ∷ (0xEC, stops noSuch) ∷ (0xED, does coinc)
-    ∷ (0xF3, stops noSuch) ∷ (0xF7, stops needsHost) ∷ (0xFF, stops noSuch) ∷ []
+    ∷ (0xF3, stops noSuch) ∷ (0xF7, starts imm w) ∷ (0xFF, stops noSuch) ∷ []
 
 -- an opcode belongs to the first run that does not end below it
 abbrev pub found : ℕ → List (ℕ × Class) → Class

@@ -6,7 +6,7 @@ use Rattle.arith.specs.Meaning.{oneOf, twoOf}
 use Rattle.opcode.specs.declared.class.Task.{Task}
 use Rattle.opcode.specs.declared.class.Task.the-variants.{Rtn, Rtnc, Rand, Back, Long, Call, All, Fmt, Test, Move, Branch, One, Fetch, Case, Push, Two, Mul, Div, Ex, Coinc}
 use Rattle.opcode.specs.declared.class.Class.{Class}
-use Rattle.opcode.specs.declared.class.Class.the-variants.{Stops, Does}
+use Rattle.opcode.specs.declared.class.Class.the-variants.{Stops, Does, Starts}
 
 abbrev pub taskOf : Task → opcodes.Task
 taskOf Rtn = opcodes.rtn
@@ -33,3 +33,4 @@ taskOf Coinc = opcodes.coinc
 abbrev pub meant : Class → opcodes.Class
 meant (Stops why) = opcodes.stops (whyOf why)
 meant (Does t) = opcodes.does (taskOf t)
+meant (Starts imm w) = opcodes.starts imm w

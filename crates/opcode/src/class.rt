@@ -1,4 +1,4 @@
-// The class of an opcode: the refusal that stops it, or its task.
+// The class of an opcode: the refusal that stops it, its task, or the start of a sound list.
 use arith::effects::One;
 use arith::effects::Two;
 use flow::status::Test;
@@ -32,9 +32,11 @@ pub enum Task {
     Coinc,
 }
 
+// The start of a list has flags too: the source is immediate, the operands are words.
 pub enum Class {
     Stops(Why),
     Does(Task),
+    Starts(bool, bool),
 }
 
 // The list of all 256 opcodes, ascending: a line for each opcode, or for each run of opcodes that share an instruction.
@@ -106,7 +108,7 @@ pub fn class_of(op: u8) -> Class
         0xEC => Class::Stops(Why::NoSuch),
         0xED => Class::Does(Task::Coinc),
         0xEE..=0xF3 => Class::Stops(Why::NoSuch),
-        0xF4..=0xF7 => Class::Stops(Why::NeedsHost),
+        0xF4..=0xF7 => Class::Starts(imm, wide),
         0xF8..=0xFF => Class::Stops(Why::NoSuch),
     }
 }

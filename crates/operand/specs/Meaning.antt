@@ -1,8 +1,8 @@
 -- What the code's places and operands say, in the words of the rules.
 use Prim.Native.Nat.{ℕ, _+_, _≤_, _<_}
 use Rattle.rules.specs.Machine.{cpu, vdp}
-use Rattle.rules.specs.Rules.{Rule, Deed}
-use Rattle.rules.specs.Operands.{Width, Cell, cell, byteCount, target}
+use Rattle.rules.specs.Rules.{Rule, Deed, give, _>>=_, _>>_}
+use Rattle.rules.specs.Operands.{Width, Cell, cell, byteCount, operand, value, target}
 use Rattle.rules.specs.Arithmetic.{half, span}
 use Rattle.machine.specs.declared.state.Now.{Now}
 use Rattle.machine.specs.Meaning.{Parts, Gives, Leaves}
@@ -35,8 +35,16 @@ Locates r f m o = Gives (cellOf (placeOf o)) r f m (nowOf o)
 abbrev pub Names : Rule Cell → (Parts → Parts) → Now → Located → Type 0
 Names r f m l = Gives (cellOf (l .place)) r f m (l .now)
 
--- an operand that is stored to, and was read: of a rule that goes on from its cell and its value, whatever it is, the rest is left to do
+-- the cell of an operand that is read
+unfoldable pub readCell : Width → Rule Cell
+readCell w = do
+  c ← operand w
+  value w c
+  give c
+
+-- an operand that is stored to, and was read: of a rule that goes on from its cell and its value, whatever it is, the rest is left to do; one that gives a value
+-- goes on from the cell alone
 abbrev pub Targets : Width → (Parts → Parts) → Now → Located → Type 0
 Targets w f m l =
     (cellOf (l .place) .at + byteCount w ≤ 16384) × (l .now .word < span (half w))
-    × ((g : Cell → ℕ → Deed) → Leaves (target w g) (g (cellOf (l .place)) (l .now .word)) f m (l .now))
+    × ((g : Cell → ℕ → Deed) → Leaves (target w g) (g (cellOf (l .place)) (l .now .word)) f m (l .now)) × Names (readCell w) f m l

@@ -37,6 +37,16 @@ pub fn place_of(o: Operand) -> Place
     }
 }
 
+// Where in its memory it is.
+pub fn offset_of(place: Place) -> u16
+    ensures { λ r. ⌜ r ≡ cellOf place .at ⌝ }
+{
+    match place {
+        Place::Cpu(a) => a,
+        Place::Vdp(a) => a,
+    }
+}
+
 // The state that goes on from an operand.
 pub fn now_of(o: Operand) -> Now
     ensures { λ r. ⌜ r ≡ nowOf o ⌝ }

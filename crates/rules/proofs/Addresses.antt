@@ -1,5 +1,5 @@
 -- 02, item 2: an answer's address has 16 bits, is 0 but with 4, 5 and 6, and that of an operand is the first byte out of range. By the table.
-use mathlib.Core.Path.{_≡_, refl, _∙_, ap, sym}
+use mathlib.Core.Path.{_≡_, refl}
 use mathlib.Core.Bool.{Bool, true, false}
 use mathlib.Core.Logic.{_⊎_, inl, inr}
 use Prim.Native.Nat.{ℕ, _+_, _≤_, _<_}
@@ -8,7 +8,7 @@ use native.Mathlib.Omega.{arith}
 use lib.Dec.{ltb, lit<}
 use borrow.Author.Tests.{ltb-true, ltb-false, leb-false}
 use Rattle.rules.specs.Machine.{pick, reach}
-use Rattle.rules.specs.Answers.{Why, ended, noSuch, needsHost, offCpu, offVdp, offGrom, offStack, tooLong, noRoom, wrongLength, noRecord, offRegister, tooCoarse, readOnly}
+use Rattle.rules.specs.Answers.{Why, ended, noSuch, needsHost, offCpu, offVdp, offGrom, offStack, tooLong, noRoom, wrongLength, noRecord, offRegister, tooCoarse, readOnly, outputFull}
 use Rattle.rules.specs.Answers.{number, address, Answer, answerFor}
 use Rattle.rules.specs.Operands.{Cell, inReach, firstOut}
 use Rattle.rules.specs.Demands.{Listed}
@@ -33,6 +33,7 @@ placed-why noRecord = nowhere refl
 placed-why offRegister = nowhere refl
 placed-why tooCoarse = nowhere refl
 placed-why readOnly = nowhere refl
+placed-why outputFull = nowhere refl
 
 -- of every refusal of a call, which is one of the table's
 pub listed-placed : {a : Answer} → Listed a → Placed a

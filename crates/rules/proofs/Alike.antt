@@ -6,16 +6,18 @@ use Prim.Native.Nat.{ℕ, suc, _+_, _-_, _%_, _≤_}
 use native.Mathlib.Omega.{arith}
 use lib.Dec.{ltb}
 use lib.ListN.{length, length-set}
-use Rattle.rules.specs.Machine.{pick, extent, writable, Mem, area, State, state, over}
+use Rattle.rules.specs.Machine.{pick, extent, writable, Mem, area, State, flagged, address, over}
 use Rattle.rules.specs.Answers.{Answer, answerFor, noRoom}
 use Rattle.rules.specs.Journal.{markWord, lay, Store, storeOf, wordOf, make, forget}
-use Rattle.rules.specs.Rules.{Act, next, ask, jump, load, store, Rule, give, refuse, act, Out, got, stopped, room, spare, perform, actStores, storesThen, stores}
-use Rattle.rules.specs.Opcodes.{Class, stops, does, classOf}
-use Rattle.rules.specs.Tasks.{ruleOf}
-use Rattle.rules.specs.Calls.{takeMark, attempt, beginStores, stepStores}
+use Rattle.rules.specs.Rules.{Act, next, ask, jump, load, store, send, Rule, give, refuse, act, Out, got, stopped, room, spare, perform, actStores, storesThen, stores}
+use Rattle.rules.specs.Rules.{actSent, sentThen, sent, sends}
+use Rattle.rules.specs.Opcodes.{classOf}
+use Rattle.rules.specs.Sound.{Source, tickRule}
+use Rattle.rules.specs.Tasks.{Plan, halt, go, planOf}
+use Rattle.rules.specs.Calls.{Way, instruction, tick, takeMark, attempt, beginStores, stepStores, tickSent}
 use Rattle.rules.proofs.Forget.{length-forget, drops-plain}
 use Rattle.rules.proofs.Laid.{Sane, held, room-held, Found, find}
-use Rattle.rules.proofs.Kept.{Both, on, off, Keeps, attempt-keeps, rested}
+use Rattle.rules.proofs.Kept.{Point, point, Both, on, off, Keeps, attempt-keeps, rested}
 
 -- ---- two journals
 
@@ -39,8 +41,8 @@ pub record Level (b c : Book) : Type 0 where
   pub fits : (b .used ≤ b .size) × (c .used ≤ c .size)
   pub orderly : (b .older ≤ b .used) × (c .older ≤ c .used)
 
-pub data Alike : State → State → Type 0 where
-  alike : {pc : ℕ} (m n : Mem) → Level (bookOf m) (bookOf n) → Alike (state pc m) (state pc (over n m))
+pub data Alike : Point → Point → Type 0 where
+  alike : {pc : ℕ} (m n : Mem) → Level (bookOf m) (bookOf n) → Alike (point pc m) (point pc (over n m))
 
 -- a word laid, where one is left: one more that can't be dropped
 holds-more : (w : ℕ) (m : Mem) → Sane m → (x : Found m) → holds (bookOf (lay w (forget (x .dropped) m))) ≡ suc (held m)
@@ -101,7 +103,7 @@ both-lay m n l f h = go (room (spare m)) refl (same-room m n l)
         rw (k, x .is, y .is) (h x y)
     go false e k = rw k (off tt)
 
-acts-alike : (q : Act) (s t : State) → Alike s t → Both Alike Anyhow (perform q (s .pc) (s .mem)) (perform q (t .pc) (t .mem))
+acts-alike : (q : Act) (s t : Point) → Alike s t → Both Alike Anyhow (perform q (s .pc) (s .mem)) (perform q (t .pc) (t .mem))
 unfolding perform
 acts-alike next s t (alike {pc} m n l) = both-test (ltb pc (length (m .image))) (on (alike m n l)) (off tt)
 acts-alike ask s t (alike m n l) = on (alike m n l)
@@ -112,8 +114,9 @@ acts-alike (store k a b) s t (alike {pc} m n l) =
     both-test (ltb a (extent (area m) k))
     (both-test (writable (area m) k a) (both-lay m n l (λ x. got 0 pc (make v x))
     (λ x y. on (alike _ (make v (forget (y .dropped) (over n m))) (level-lay m n l (wordOf v) x y)))) (off tt)) (off tt)
+acts-alike (send b) s t (alike m n l) = on (alike m n l)
 
-marks-alike : (pc : ℕ) (s t : State) → Alike s t → Both Alike Anyhow (takeMark pc (s .pc) (s .mem)) (takeMark pc (t .pc) (t .mem))
+marks-alike : (pc : ℕ) (s t : Point) → Alike s t → Both Alike Anyhow (takeMark pc (s .pc) (s .mem)) (takeMark pc (t .pc) (t .mem))
 unfolding takeMark
 marks-alike pc s t (alike {pc = pc₁} m n l) = both-lay m n l (λ x. got tt pc₁ (lay (markWord pc) x))
     (λ x y. on (alike _ (lay (markWord pc) (forget (y .dropped) (over n m))) (level-lay m n l (markWord pc) x y)))
@@ -121,12 +124,12 @@ marks-alike pc s t (alike {pc = pc₁} m n l) = both-lay m n l (λ x. got tt pc�
 keeps-alike : Keeps Alike Anyhow
 keeps-alike = record { acts = acts-alike; marks = marks-alike; refuses = λ why s t h. tt }
 
-pub attempt-alike : (s t : State) → s .pc ≡ t .pc → Alike (rested s) (rested t) → Both Alike Anyhow (attempt s) (attempt t)
+pub attempt-alike : (w : Way) (s t : State) → s .pc ≡ t .pc → s .source ≡ t .source → Alike (rested s) (rested t) → Both Alike Anyhow (attempt w s) (attempt w t)
 attempt-alike = attempt-keeps keeps-alike
 
 -- ---- so the stores are the same
 
-act-stores : (q : Act) (s t : State) → Alike s t → actStores q (s .mem) ≡ actStores q (t .mem)
+act-stores : (q : Act) (s t : Point) → Alike s t → actStores q (s .mem) ≡ actStores q (t .mem)
 unfolding actStores
 act-stores next s t h = refl
 act-stores ask s t h = refl
@@ -134,26 +137,57 @@ act-stores (jump a) s t h = refl
 act-stores (load k a) s t h = refl
 act-stores (store k a b) s t (alike {pc} m n l) =
     ap (λ (c : Bool). pick (ltb a (extent (area m) k)) (pick (writable (area m) k a) (pick c (storeOf k a (b % 256) m ∷ []) []) []) []) (sym (same-room m n l))
+act-stores (send b) s t h = refl
 
 stores-then : {A : Type 0} {o p : Out A} (f g : A → ℕ → Mem → List Store) → Both Alike Anyhow o p
-    → ((a : A) (s t : State) → Alike s t → f a (s .pc) (s .mem) ≡ g a (t .pc) (t .mem)) → storesThen o f ≡ storesThen p g
-stores-then f g (on {a} {pc} {pc₁} {m} {m₁} h) k = k a (state pc m) (state pc₁ m₁) h
+    → ((a : A) (s t : Point) → Alike s t → f a (s .pc) (s .mem) ≡ g a (t .pc) (t .mem)) → storesThen o f ≡ storesThen p g
+stores-then f g (on {a} {pc} {pc₁} {m} {m₁} h) k = k a (point pc m) (point pc₁ m₁) h
 stores-then f g (off h) k = refl
 
-stores-alike : {A : Type 0} (r : Rule A) (s t : State) → Alike s t → stores r (s .pc) (s .mem) ≡ stores r (t .pc) (t .mem)
+stores-alike : {A : Type 0} (r : Rule A) (s t : Point) → Alike s t → stores r (s .pc) (s .mem) ≡ stores r (t .pc) (t .mem)
 unfolding stores
 stores-alike (give a) s t h = refl
 stores-alike (refuse why) s t h = refl
 stores-alike (act q k) s t h =
     ap₂ (λ (x y : List Store). x ++ y) (act-stores q s t h) (stores-then (λ v. stores (k v)) (λ v. stores (k v)) (acts-alike q s t h) (λ v. stores-alike (k v)))
 
-begin-stores : (pc : ℕ) (c : Class) (s t : State) → Alike s t → beginStores pc c (s .pc) (s .mem) ≡ beginStores pc c (t .pc) (t .mem)
+begin-stores : (a : ℕ) (p : Plan) (s t : Point) → Alike s t → beginStores a p (s .pc) (s .mem) ≡ beginStores a p (t .pc) (t .mem)
 unfolding beginStores
-begin-stores pc (stops why) s t h = refl
-begin-stores pc (does x) s t h = stores-then (λ _. stores (ruleOf x)) (λ _. stores (ruleOf x)) (marks-alike pc s t h) (λ _. stores-alike (ruleOf x))
+begin-stores a (halt why) s t h = refl
+begin-stores a (go r) s t h = stores-then (λ _. stores r) (λ _. stores r) (marks-alike a s t h) (λ _. stores-alike r)
 
-pub step-stores : (s t : State) → s .pc ≡ t .pc → Alike (rested s) (rested t) → stepStores s ≡ stepStores t
-unfolding stepStores
-step-stores s t e h =
-    stores-then (λ op. beginStores (s .pc) (classOf op)) (λ op. beginStores (t .pc) (classOf op)) (acts-alike next (rested s) (rested t) h)
-    (λ op x y k. begin-stores (s .pc) (classOf op) x y k ∙ ap (λ (pc : ℕ). beginStores pc (classOf op) (y .pc) (y .mem)) e)
+module _ (s t : State) (e : s .pc ≡ t .pc) (f : s .source ≡ t .source) (h : Alike (rested s) (rested t)) where
+  -- by the flag, the plan and the mark are the same
+  same-plan : (plan : Source → Plan) (x y : Point) → Alike x y
+      → beginStores (address s) (plan (s .source)) (x .pc) (x .mem) ≡ beginStores (address t) (plan (t .source)) (y .pc) (y .mem)
+  same-plan plan x y k =
+      begin-stores (address s) (plan (s .source)) x y k
+      ∙ ap₂ (λ (pc : ℕ) (v : Source). beginStores (flagged pc v) (plan v) (y .pc) (y .mem)) e f
+
+  pub step-stores : (w : Way) → stepStores w s ≡ stepStores w t
+  unfolding stepStores
+  step-stores instruction =
+      stores-then (λ op. beginStores (address s) (planOf (s .source) (classOf op))) (λ op. beginStores (address t) (planOf (t .source) (classOf op)))
+      (acts-alike next (rested s) (rested t) h) (λ op. same-plan (λ v. planOf v (classOf op)))
+  step-stores (tick n) = same-plan (λ v. go (tickRule n v)) (rested s) (rested t) h
+
+-- ---- and so are the bytes that are sent
+
+sent-going : {A : Type 0} {o p : Out A} (f g : A → ℕ → Mem → List ℕ) → Both Alike Anyhow o p
+    → ((a : A) (s t : Point) → Alike s t → f a (s .pc) (s .mem) ≡ g a (t .pc) (t .mem)) → sentThen o f ≡ sentThen p g
+sent-going f g (on {a} {pc} {pc₁} {m} {m₁} h) k = k a (point pc m) (point pc₁ m₁) h
+sent-going f g (off h) k = refl
+
+sent-alike : {A : Type 0} (r : Rule A) (s t : Point) → Alike s t → sent r (s .pc) (s .mem) ≡ sent r (t .pc) (t .mem)
+unfolding sent
+sent-alike (give a) s t h = refl
+sent-alike (refuse why) s t h = refl
+sent-alike (act q k) s t h =
+    ap (λ (l : List ℕ). actSent q ++ l) (sent-going (λ v. sent (k v)) (λ v. sent (k v)) (acts-alike q s t h) (λ v. sent-alike (k v)))
+
+pub tick-sent : (s t : State) → s .pc ≡ t .pc → s .source ≡ t .source → Alike (rested s) (rested t) → (n : ℕ) → tickSent n s ≡ tickSent n t
+unfolding tickSent sends
+tick-sent s t e f h n =
+    sent-going (λ _. sent (tickRule n (s .source))) (λ _. sent (tickRule n (s .source))) (marks-alike (address s) (rested s) (rested t) h)
+    (λ _. sent-alike (tickRule n (s .source)))
+    ∙ ap₂ (λ (pc : ℕ) (v : Source). sends (takeMark (flagged pc v) (t .pc) (rested t .mem)) (tickRule n v)) e f

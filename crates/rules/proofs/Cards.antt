@@ -7,6 +7,7 @@ use Rattle.rules.specs.Arithmetic.{parity}
 use Rattle.rules.specs.Cards.{cards, facts, bufferFacts, addressFacts, coincFacts, everyPasses}
 use Rattle.rules.specs.Gram.{chip, moved, gramFacts, wrapped, holds, everyHolds, takenBack, backFacts}
 use Rattle.rules.specs.Rings as rings
+use Rattle.rules.specs.Tunes as tunes
 use Rattle.rules.proofs.Compute.{everyRule}
 
 pub cards-pass : everyPasses cards ≡ true
@@ -54,3 +55,20 @@ back-facts = refl
 pub rings-hold : rings.everyPasses rings.ringFacts ≡ true
 unfolding everyRule rings.passes rings.everyPasses
 rings-hold = refl
+
+-- 02, item 10
+pub starts-hold : tunes.everyPlays tunes.startFacts ≡ true
+unfolding everyRule tunes.plays tunes.everyPlays
+starts-hold = refl
+
+pub ticks-hold : tunes.everyPlays tunes.tickFacts ≡ true
+unfolding everyRule tunes.plays tunes.everyPlays
+ticks-hold = refl
+
+pub goes-round : tunes.plays tunes.roundFact ≡ true
+unfolding everyRule tunes.plays
+goes-round = refl
+
+pub flag-back : tunes.backFacts ≡ true
+unfolding everyRule tunes.backSays
+flag-back = refl

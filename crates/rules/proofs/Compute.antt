@@ -2,7 +2,7 @@
 use lib.Count.{onesIn, ones}
 use Rattle.rules.specs.Machine.{_also_, bit}
 use Rattle.rules.specs.Journal.{word, markWord, note, undoTop, undo, turned, marks}
-use Rattle.rules.specs.Rules.{_>>=_, spare, perform, exec, after, valued, actStores, stores, need, nextWord, peekWord}
+use Rattle.rules.specs.Rules.{_>>=_, spare, perform, exec, after, valued, actStores, stores, actSent, sent, sends, need, nextWord, peekWord}
 use Rattle.rules.specs.Operands.{shortOffset, offset, addIndex, indexed, throughWord, throughByte, popCell, throughPad, named, farCell}
 use Rattle.rules.specs.Operands.{anyCell, reached, operandOf, position, screenByte, toScreen, loadBuffer, refresh, standing, value}
 use Rattle.rules.specs.Operands.{pokeWord, storeValue, echo, result, operandValue, immediate, source}
@@ -19,8 +19,9 @@ use Rattle.rules.specs.Format.{setCursor, wrapShow, wrapSkip, show, skip
 use Rattle.rules.specs.Format.{padText, operandText, goOn, openBlock, closeBlock, repeatBlock, blockTurn, endInside, settleCursor}
 use Rattle.rules.specs.Format.{endOutside, endCode, gromBias, operandBias, cursorCode, lastRow, codeRule, code, codes, fmtRule}
 use Rattle.rules.specs.Coincidence.{difference, along, inside, tableBit, meets, inTable, lookUp, granularity, coincRule}
-use Rattle.rules.specs.Tasks.{ruleOf}
-use Rattle.rules.specs.Calls.{imageFits, partsFit, placeFits, takeMark, begin, attempt, fitStep, step, beginStores, stepStores, steps, run, scan}
+use Rattle.rules.specs.Sound.{startRule, listByte, sendNext, sendBytes, sendBlock, leap, block, opened, closed, dueBlock, countDown, tickRule}
+use Rattle.rules.specs.Tasks.{ruleOf, planOf}
+use Rattle.rules.specs.Calls.{imageFits, partsFit, placeFits, takeMark, begin, attempt, fitStep, step, beginStores, stepStores, tickSent, tickOutput, steps, run, scan}
 use Rattle.rules.specs.Calls.{fitBack, stepBack, view}
 use Rattle.rules.specs.Cards.{passes, everyPasses}
 use Rattle.rules.specs.Gram.{holds, everyHolds, takenBack, backAnswers}
@@ -28,7 +29,7 @@ use Rattle.rules.specs.Gram.{holds, everyHolds, takenBack, backAnswers}
 unfoldable pub everyRule : Unit {0}
 unfolding _also_ bit
     word markWord note undoTop undo turned marks
-    _>>=_ spare perform exec after valued actStores stores need nextWord peekWord
+    _>>=_ spare perform exec after valued actStores stores actSent sent sends need nextWord peekWord
     shortOffset offset addIndex indexed throughWord throughByte popCell throughPad named farCell anyCell reached operandOf position screenByte
     toScreen loadBuffer refresh standing value pokeWord storeValue echo result operandValue immediate source
     gramClass moveClass classOf
@@ -40,7 +41,8 @@ unfolding _also_ bit
     setCursor wrapShow wrapSkip show skip showNext text showTimes repeatText cpuOperand showCell padText operandText goOn openBlock closeBlock
     repeatBlock blockTurn endInside settleCursor endOutside endCode gromBias operandBias cursorCode lastRow codeRule code codes fmtRule
     difference along inside tableBit meets inTable lookUp granularity coincRule
-    ruleOf
-    imageFits partsFit placeFits takeMark begin attempt fitStep step beginStores stepStores steps run scan fitBack stepBack view
+    startRule listByte sendNext sendBytes sendBlock leap block opened closed dueBlock countDown tickRule
+    ruleOf planOf
+    imageFits partsFit placeFits takeMark begin attempt fitStep step beginStores stepStores tickSent tickOutput steps run scan fitBack stepBack view
     passes everyPasses holds everyHolds takenBack backAnswers
 everyRule = tt

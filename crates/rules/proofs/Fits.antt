@@ -7,10 +7,10 @@ use native.Mathlib.Omega.{arith}
 use lib.Dec.{eqb, ltb}
 use lib.ListN.{length}
 use borrow.Author.Tests.{le-leb, leb-true, lt-ltb}
-use Rattle.rules.specs.Machine.{pick, _also_, Kind, cpu, vdp, register, grom, size, Mem, State, cells}
+use Rattle.rules.specs.Machine.{pick, Kind, cpu, vdp, register, grom, size, Mem, State, cells}
 use Rattle.rules.specs.Answers.{answerFor, wrongLength}
 use Rattle.rules.specs.Journal.{placeOn}
-use Rattle.rules.specs.Calls.{partsFit, placeFits, fits, Reply, refused, fitStep, step, stepStores, fitBack, stepBack}
+use Rattle.rules.specs.Calls.{Way, partsFit, placeFits, fits, Reply, refused, fitStep, step, stepStores, fitBack, stepBack}
 use Rattle.rules.specs.Demands.{Good, Accepted}
 use Rattle.rules.proofs.Tests.{both, together}
 use Rattle.rules.proofs.Steps.{Settled, settled}
@@ -63,29 +63,29 @@ place-fits ring (suc d) a c l h = place-fits ring d ((a + 1) % c) c (omega arith
 
 -- ---- the calls
 
-module _ (s : State) where
-  pub step-fit : fits (s .mem) ≡ true → step s ≡ fitStep s
+module _ (w : Way) (s : State) where
+  pub step-fit : fits (s .mem) ≡ true → step w s ≡ fitStep w s
   unfolding step
   step-fit h = rw h
 
-  pub step-unfit : fits (s .mem) ≡ false → step s ≡ refused (answerFor wrongLength) s
+  pub step-unfit : fits (s .mem) ≡ false → step w s ≡ refused (answerFor wrongLength) s
   unfolding step
   step-unfit h = rw h
 
   -- what is known of every step, by what is known of one whose parts fit and of one whose parts don't
-  pub step-cases : (P : Reply → Type 0) → (fits (s .mem) ≡ true → P (fitStep s)) → (fits (s .mem) ≡ false → P (refused (answerFor wrongLength) s)) → P (step s)
+  pub step-cases : (P : Reply → Type 0) → (fits (s .mem) ≡ true → P (fitStep w s)) → (fits (s .mem) ≡ false → P (refused (answerFor wrongLength) s)) → P (step w s)
   unfolding step
   step-cases P f g = go (fits (s .mem)) refl
     where
-      go : (c : Bool) → fits (s .mem) ≡ c → P (pick c (fitStep s) (refused (answerFor wrongLength) s))
+      go : (c : Bool) → fits (s .mem) ≡ c → P (pick c (fitStep w s) (refused (answerFor wrongLength) s))
       go true e = f e
       go false e = g e
 
-  pub accepted-fits : Accepted (step s) → fits (s .mem) ≡ true
+  pub accepted-fits : Accepted (step w s) → fits (s .mem) ≡ true
   accepted-fits = step-cases (λ r. Accepted r → fits (s .mem) ≡ true) (λ e a. e) (λ e a. absurd a)
 
-  pub step-settled : Good s → Settled s (stepStores s) (step s)
-  step-settled g = step-cases (Settled s (stepStores s)) (λ e. settled s g (fits-used (s .mem) e)) (λ e. tt)
+  pub step-settled : Good s → Settled s (stepStores w s) (step w s)
+  step-settled g = step-cases (Settled s (stepStores w s)) (λ e. settled w s g (fits-used (s .mem) e)) (λ e. tt)
 
 pub back-fit : (s : State) → fits (s .mem) ≡ true → stepBack s ≡ fitBack s
 unfolding stepBack

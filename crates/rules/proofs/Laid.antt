@@ -12,7 +12,7 @@ use borrow.Author.Tests.{ltb-true, ltb-false, lt-ltb, le-ltb}
 use Rattle.rules.specs.Machine.{pick, _also_, Kind, extent, writable, Mem, area}
 use Rattle.rules.specs.Answers.{Answer, answerFor, noRoom, readOnly, outside}
 use Rattle.rules.specs.Journal.{markWord, lay, Store, storeOf, make, olderWords, oldest, forget}
-use Rattle.rules.specs.Rules.{Act, next, ask, jump, load, store, Rule, give, refuse, act, Out, got, stopped, then, room, spare, perform, exec, actStores, storesThen, stores}
+use Rattle.rules.specs.Rules.{Act, next, ask, jump, load, store, send, Rule, give, refuse, act, Out, got, stopped, then, room, spare, perform, exec, actStores, storesThen, stores}
 use Rattle.rules.specs.Calls.{taken}
 use Rattle.rules.specs.Demands.{Bytes, Drops, enough}
 use Rattle.rules.proofs.Stores.{memOf, Made, none, one, made-append, used-after, older-after, older-words-after, ring-after, journal-length, used-fits}
@@ -67,6 +67,7 @@ bytes-act (store k a v) pc m b =
     bytes-test (ltb a (extent (area m) k)) _ _
     (bytes-test (writable (area m) k a) _ _
     (bytes-test (room (spare m)) _ _ (bytes-put k a (v % 256) (spare m) (mod-lt v (lit< tt)) (bytes-spare m b)) (bytes-spare m b)) b) b
+bytes-act (send v) pc m b = b
 
 -- the words that can't be dropped: the step's own; or, where none can, all
 abbrev pub held : Mem → ℕ
@@ -253,6 +254,7 @@ laid-act ask pc m s = laid-none m s
 laid-act (jump a) pc m s = laid-none m s
 laid-act (load k a) pc m s = laid-look (ltb a (extent (area m) k)) _ _ _ m s
 laid-act (store k a b) pc m s = laid-store k a b pc m s _ refl _ refl _ refl
+laid-act (send b) pc m s = laid-none m s
 
 laid-then : {A B : Type 0} (o : Out A) (f : A → ℕ → Mem → List Store) (g : A → ℕ → Mem → Out B) → Sane (memOf o)
     → ((a : A) (pc : ℕ) (m : Mem) → Sane m → Laid m (f a pc m) (memOf (g a pc m))) → Laid (memOf o) (storesThen o f) (memOf (then o g))

@@ -1,6 +1,7 @@
 pub mod Laws
 pub mod Loops
 pub mod Tests
+pub mod Sending
 pub mod Stores
 pub mod Forget
 pub mod Undo
@@ -16,6 +17,7 @@ pub mod Replies
 pub mod Records
 pub mod History
 pub mod Room
+pub mod Ticks
 pub mod Struck
 pub mod Addresses
 pub mod Wrong

@@ -8,24 +8,25 @@ use lib.Dec.{ltb}
 use lib.ListN.{length}
 use Rattle.rules.specs.Machine.{pick, extent, writable, area, State}
 use Rattle.rules.specs.Answers.{Why, Answer, well, answerFor, offGrom, noRoom, readOnly, wrongLength, noRecord, outside}
-use Rattle.rules.specs.Rules.{Act, next, ask, jump, load, store, Rule, Out, got, stopped, room, spare, perform, exec}
-use Rattle.rules.specs.Calls.{fits, Reply, done, refused, answer, takeMark, attempt, settle, fitStep, step, Report, report, steps, run}
+use Rattle.rules.specs.Rules.{Act, next, ask, jump, load, store, send, Rule, Out, got, stopped, room, spare, perform, exec}
+use Rattle.rules.specs.Sound.{Source}
+use Rattle.rules.specs.Calls.{Way, instruction, fits, Reply, done, refused, answer, takeMark, attempt, settle, fitStep, step, Report, report, steps, run}
 use Rattle.rules.specs.Calls.{Find, found, lost, scan, backTo, fitBack, stepBack}
-use Rattle.rules.specs.Demands.{Listed, Accepted, forward, Ends, full, cut}
+use Rattle.rules.specs.Demands.{Listed, Accepted, forward, instructions, Ends, full, cut}
 use Rattle.rules.proofs.Opcodes.{never-done}
-use Rattle.rules.proofs.Kept.{Held, by-test, Holds, exec-holds, attempt-holds}
+use Rattle.rules.proofs.Kept.{Point, Held, by-test, Holds, exec-holds, attempt-holds}
 use Rattle.rules.proofs.Fits.{step-cases}
 use Rattle.rules.proofs.Run.{steps-end}
 
 -- ---- of a rule, and of an attempt
 
-abbrev pub Any : State → Type 0
+abbrev pub Any : Point → Type 0
 Any s = Unit {0}
 
 pub by-name : (why : Why) → Listed (answerFor why)
 by-name why = record { why = why; is = refl }
 
-named-act : (q : Act) (s : State) → Any s → Held Any Listed (perform q (s .pc) (s .mem))
+named-act : (q : Act) (s : Point) → Any s → Held Any Listed (perform q (s .pc) (s .mem))
 unfolding perform
 named-act next s h = by-test Any Listed (ltb (s .pc) (length (s .mem .image))) _ _ tt (by-name (offGrom (s .pc)))
 named-act ask s h = tt
@@ -35,15 +36,16 @@ named-act (store k a b) s h =
     by-test Any Listed (ltb a (extent (area (s .mem)) k)) _ _
     (by-test Any Listed (writable (area (s .mem)) k a) _ _ (by-test Any Listed (room (spare (s .mem))) _ _ tt (by-name noRoom)) (by-name readOnly))
     (by-name (outside k a))
+named-act (send b) s h = tt
 
-named-mark : (pc : ℕ) (s : State) → Any s → Held Any Listed (takeMark pc (s .pc) (s .mem))
+named-mark : (a : ℕ) (s : Point) → Any s → Held Any Listed (takeMark a (s .pc) (s .mem))
 unfolding takeMark
-named-mark pc s h = by-test Any Listed (room (spare (s .mem))) _ _ tt (by-name noRoom)
+named-mark a s h = by-test Any Listed (room (spare (s .mem))) _ _ tt (by-name noRoom)
 
 named : Holds Any Listed
 named = record { acts = named-act; marks = named-mark; refuses = by-name }
 
-pub named-exec : {A : Type 0} (r : Rule A) (s : State) → Held Any Listed (exec r (s .pc) (s .mem))
+pub named-exec : {A : Type 0} (r : Rule A) (s : Point) → Held Any Listed (exec r (s .pc) (s .mem))
 named-exec r s = exec-holds named r s tt
 
 -- ---- of a call
@@ -52,16 +54,16 @@ abbrev pub NamedReply : Reply → Type 0
 NamedReply (done s) = Unit {0}
 NamedReply (refused n s) = Listed n
 
-named-settle : (s : State) (o : Out (Unit {0})) → Held Any Listed o → NamedReply (settle s o)
+named-settle : (s : State) (o : Out Source) → Held Any Listed o → NamedReply (settle s o)
 named-settle s (got a pc m) h = tt
 named-settle s (stopped n m) h = h
 
-pub named-step : (s : State) → NamedReply (step s)
+pub named-step : (w : Way) (s : State) → NamedReply (step w s)
 unfolding fitStep
-named-step s = step-cases s NamedReply (λ f. named-settle s (attempt s) (attempt-holds named s tt)) (λ f. by-name wrongLength)
+named-step w s = step-cases w s NamedReply (λ f. named-settle s (attempt w s) (attempt-holds named w s tt)) (λ f. by-name wrongLength)
 
 named-find : (f : Find) (s : State) → NamedReply (backTo f s)
-named-find (found n pc) s = tt
+named-find (found n a) s = tt
 named-find lost s = by-name noRecord
 
 pub named-back : (s : State) → NamedReply (stepBack s)
@@ -84,7 +86,7 @@ Answered a = (a ≡ well) ⊎ Listed a
 module _ (n : ℕ) (s : State) where
   named-end : (r : Report) → Ends n s r → Answered (r .answer)
   named-end r (full h) = inl refl
-  named-end r (cut {k} l h e) = inr (subst NamedReply e (named-step (forward k s)))
+  named-end r (cut {k} l h e) = inr (subst NamedReply e (named-step instruction (forward (instructions k) s)))
 
   pub named-run : Answered (run n s .answer)
   unfolding run

@@ -1,4 +1,4 @@
--- The 256 opcodes by one computed test: those that 1, 2 and 3 stop are exactly 01's lists, and every other has a rule. The table's numbers by another: 1 to 8, 10 to 13, 23, 24.
+-- The 256 opcodes by one computed test: those that 1, 2 and 3 stop are exactly 01's lists, and every other has a rule. The table's numbers by another: 1 to 8, 10 to 13, 23, 24, 26.
 use mathlib.Core.Path.{_≡_, refl, _∙_, ap, sym}
 use mathlib.Core.Bool.{Bool, true, false}
 use mathlib.Core.List.{List, [], _∷_, _++_}
@@ -8,8 +8,8 @@ use native.Mathlib.Decide.{ℕ-discrete}
 use lib.Dec.{eqb}
 use borrow.Author.Tests.{eqb-true}
 use Rattle.rules.specs.Machine.{pick, _also_, bit}
-use Rattle.rules.specs.Answers.{Why, ended, noSuch, needsHost, offCpu, offVdp, offGrom, offStack, tooLong, noRoom, wrongLength, noRecord, offRegister, tooCoarse, readOnly, number}
-use Rattle.rules.specs.Opcodes.{Class, stops, does, classOf, gramClass, moveClass}
+use Rattle.rules.specs.Answers.{Why, ended, noSuch, needsHost, offCpu, offVdp, offGrom, offStack, tooLong, noRoom, wrongLength, noRecord, offRegister, tooCoarse, readOnly, outputFull, number}
+use Rattle.rules.specs.Opcodes.{Class, stops, does, starts, classOf, gramClass, moveClass}
 use Rattle.rules.proofs.Tests.{false-true}
 use Rattle.rules.proofs.Tests.{both}
 
@@ -19,9 +19,9 @@ use Rattle.rules.proofs.Tests.{both}
 pub ending : List ℕ
 ending = 0x0B ∷ []
 
--- "needs the host: >03, >0F, >F4 to >F7"
+-- "needs the host: >03, >0F"; 02, item 10, takes >F4 to >F7 from them
 pub hosts : List ℕ
-hosts = 0x03 ∷ 0x0F ∷ 0xF4 ∷ 0xF5 ∷ 0xF6 ∷ 0xF7 ∷ []
+hosts = 0x03 ∷ 0x0F ∷ []
 
 -- n opcodes from one on
 pub from : ℕ → ℕ → List ℕ
@@ -29,14 +29,14 @@ from a zero = []
 from a (suc n) = a ∷ from (suc a) n
 
 -- those that 01 names as instructions: >00 to >0D but those above, MOVE but >36, >37, >3E, >3F, BR and BS, those of one operand, those of two but immediate EX;
--- and of 02 COINC and MOVE into GROM
+-- and of 02 COINC, MOVE into GROM and the start of a sound list
 pub instructions : List ℕ
 instructions =
     from 0x00 3 ++ from 0x04 7 ++ from 0x0C 2
     ++ from 0x20 6 ++ from 0x30 6 ++ from 0x38 6
     ++ from 0x40 32 ++ from 0x60 32
     ++ from 0x80 24
-    ++ from 0xA0 34 ++ from 0xC4 40 ++ from 0xED 1
+    ++ from 0xA0 34 ++ from 0xC4 40 ++ from 0xED 1 ++ from 0xF4 4
 
 pub among : ℕ → List ℕ → Bool
 among op [] = false
@@ -50,6 +50,7 @@ listed op = pick (among op instructions) 0 (pick (among op ending) 1 (pick (amon
 unfoldable pub verdict : Class → ℕ
 verdict (stops why) = number why
 verdict (does t) = 0
+verdict (starts imm w) = 0
 
 -- ---- the test, and what it says of each opcode
 
@@ -81,7 +82,7 @@ opcodes-listed op h = eqb-true _ _ (below-at 256 right all-right op h)
 -- ---- the numbers of the table
 
 numbers : List ℕ
-numbers = from 1 8 ++ from 10 4 ++ from 23 2
+numbers = from 1 8 ++ from 10 4 ++ from 23 2 ++ from 26 1
 
 in-table : (why : Why) → among (number why) numbers ≡ true
 unfolding among numbers from
@@ -99,6 +100,7 @@ in-table noRecord = refl
 in-table offRegister = refl
 in-table tooCoarse = refl
 in-table readOnly = refl
+in-table outputFull = refl
 
 not-in-table : (n : ℕ) → among n numbers ≡ false → (why : Why) → number why ≡ n → ⊥
 not-in-table n e why h = false-true (sym e ∙ ap (λ (k : ℕ). among k numbers) (sym h) ∙ in-table why)

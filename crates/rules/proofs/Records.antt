@@ -8,9 +8,9 @@ use native.Mathlib.Omega.{arith}
 use lib.ListN.{length, drop}
 use lib.Seq.{drop-drop, drop-append-seam}
 use borrow.Author.Tests.{ne-eqb, le-leb, lt-leb}
-use Rattle.rules.specs.Machine.{Kind, cpu, vdp, register, grom, Mem, area, State}
+use Rattle.rules.specs.Machine.{Kind, cpu, vdp, register, grom, Mem, area, State, address}
 use Rattle.rules.specs.Journal.{kindNumber, word, markWord, Store, wordOf, marks, untilMark, oldest}
-use Rattle.rules.specs.Calls.{stepStores}
+use Rattle.rules.specs.Calls.{Way, stepStores}
 use Rattle.rules.specs.Demands.{Bytes, Drops, enough, another, forward, recordOf, records, fitting}
 use Rattle.rules.proofs.Stores.{Made, none, one}
 use Rattle.rules.proofs.Forget.{drops-room}
@@ -18,10 +18,10 @@ use Rattle.rules.proofs.Undo.{stored-small, old-byte, bytes-after}
 
 -- ---- which words are marks
 
-marks-mark : (pc : ℕ) → pc < 65536 → marks (markWord pc) ≡ true
+marks-mark : (a : ℕ) → a < 131072 → marks (markWord a) ≡ true
 unfolding marks markWord
-marks-mark pc h =
-    let top : (3 * 2 ^ 29 + pc) / 2 ^ 29 ≡ 3 = omega arith in
+marks-mark a h =
+    let top : (3 * 2 ^ 29 + a) / 2 ^ 29 ≡ 3 = omega arith in
     rw top
 
 not-three : (k : Kind) → kindNumber k ≡ 3 → ⊥
@@ -52,8 +52,8 @@ abbrev pub Marked : List ℕ → Type 0
 Marked [] = ⊥
 Marked (w ∷ ws) = (marks w ≡ true) × Unmarked ws
 
-pub made-marked : {pc : ℕ} {m m′ : Mem} {ss : List Store} → pc < 65536 → Bytes m → Made m ss m′ → Marked (markWord pc ∷ map wordOf ss)
-made-marked {pc} l b h = (marks-mark pc l, made-unmarked b h)
+pub made-marked : {a : ℕ} {m m′ : Mem} {ss : List Store} → a < 131072 → Bytes m → Made m ss m′ → Marked (markWord a ∷ map wordOf ss)
+made-marked {a} l b h = (marks-mark a l, made-unmarked b h)
 
 -- ---- the oldest of them
 
@@ -78,49 +78,50 @@ oldest-dropped : {ws vs : List ℕ} → First ws vs → Begins vs → drop (olde
 oldest-dropped {ws} {vs} f b =
     ap₂ (λ (n : ℕ) (l : List ℕ). drop n l) (ap oldest (f .is) ∙ ap suc (until-next (f .more) vs (f .marked .1) b)) (f .is) ∙ drop-append-seam (f .top ∷ f .more) vs
 
--- ---- of the newest k of n steps
+-- ---- of the newest k steps
 
 module _ (s : State) where
   -- each of them has such a record
-  abbrev pub Recorded : ℕ → Type 0
-  Recorded zero = Unit {0}
-  Recorded (suc n) = Recorded n × Marked (recordOf (forward n s))
+  abbrev pub Recorded : List Way → Type 0
+  Recorded [] = Unit {0}
+  Recorded (w ∷ ws) = Recorded ws × Marked (recordOf w (forward ws s))
 
-  first : (k n : ℕ) → Recorded n → suc k ≤ n → First (records (suc k) n s) (records k n s)
-  first k zero h l = absurd (not-suc-le-zero l)
-  first zero (suc n) h l = record { top = markWord (forward n s .pc); more = map wordOf (stepStores (forward n s)); is = sym (append-nil _); marked = h .1 }
-  first (suc k) (suc n) h l =
-      let f : First (records (suc k) n s) (records k n s) = first k n (h .0) (omega arith) in
+  first : (k : ℕ) (ws : List Way) → Recorded ws → suc k ≤ length ws → First (records (suc k) ws s) (records k ws s)
+  first k [] h l = absurd (not-suc-le-zero l)
+  first zero (w ∷ ws) h l =
+      record { top = markWord (address (forward ws s)); more = map wordOf (stepStores w (forward ws s)); is = sym (append-nil _); marked = h .1 }
+  first (suc k) (w ∷ ws) h l =
+      let f : First (records (suc k) ws s) (records k ws s) = first k ws (h .0) (omega arith) in
       record {
         top = f .top;
         more = f .more;
-        is = ap (λ (x : List ℕ). x ++ recordOf (forward n s)) (f .is) ∙ append-assoc (f .top ∷ f .more) (records k n s) (recordOf (forward n s));
+        is = ap (λ (x : List ℕ). x ++ recordOf w (forward ws s)) (f .is) ∙ append-assoc (f .top ∷ f .more) (records k ws s) (recordOf w (forward ws s));
         marked = f .marked;
       }
 
-  begins : (k n : ℕ) → Recorded n → k ≤ n → Begins (records k n s)
-  begins zero n h l = tt
-  begins (suc k) n h l =
-      let f : First (records (suc k) n s) (records k n s) = first k n h l in
+  begins : (k : ℕ) (ws : List Way) → Recorded ws → k ≤ length ws → Begins (records k ws s)
+  begins zero ws h l = tt
+  begins (suc k) ws h l =
+      let f : First (records (suc k) ws s) (records k ws s) = first k ws h l in
       subst Begins (sym (f .is)) (f .marked .0)
 
   -- all of them have room, or one less is tried
-  pub fitting-all : (k n c : ℕ) → length (records k n s) ≤ c → fitting c k n s ≡ k
-  fitting-all zero n c h = refl
-  fitting-all (suc k) n c h = rw (le-leb (length (records (suc k) n s)) c h)
+  pub fitting-all : (k : ℕ) (ws : List Way) (c : ℕ) → length (records k ws s) ≤ c → fitting c k ws s ≡ k
+  fitting-all zero ws c h = refl
+  fitting-all (suc k) ws c h = rw (le-leb (length (records (suc k) ws s)) c h)
 
-  fitting-less : (k n c : ℕ) → c < length (records (suc k) n s) → fitting c (suc k) n s ≡ fitting c k n s
-  fitting-less k n c h = rw (lt-leb (length (records (suc k) n s)) c h)
+  fitting-less : (k : ℕ) (ws : List Way) (c : ℕ) → c < length (records (suc k) ws s) → fitting c (suc k) ws s ≡ fitting c k ws s
+  fitting-less k ws c h = rw (lt-leb (length (records (suc k) ws s)) c h)
 
   -- what is dropped is whole steps, and as many stay as have room
-  pub drops-kept : {b : Bool} {c t : ℕ} {ws : List ℕ} {d : ℕ} (k n : ℕ) → Recorded n → k ≤ n → ws ≡ records k n s → Drops b c t ws d
-      → (drop d ws ≡ records (fitting (c - t) k n s) n s) × (fitting (c - t) k n s ≤ k)
-  drops-kept {c = c} {t = t} k n h l e (enough {ws} r) =
-      let z : fitting (c - t) k n s ≡ k = fitting-all k n (c - t) (omega (arith, ap length e)) in
-      (e ∙ ap (λ (x : ℕ). records x n s) (sym z), omega (arith, z))
-  drops-kept {c = c} {t = t} zero n h l e (another {ws} {d} q r f) = absurd (omega (arith, ap length e, drops-room f .1))
-  drops-kept {c = c} {t = t} (suc k) n h l e (another {ws} {d} q r f) =
-      let y : drop (oldest ws) ws ≡ records k n s = ap (λ (x : List ℕ). drop (oldest x) x) e ∙ oldest-dropped (first k n h l) (begins k n h (omega arith)) in
-      let i : (drop d (drop (oldest ws) ws) ≡ records (fitting (c - t) k n s) n s) × _ = drops-kept k n h (omega arith) y f in
-      let z : fitting (c - t) (suc k) n s ≡ fitting (c - t) k n s = fitting-less k n (c - t) (omega (arith, ap length e, drops-room f .1)) in
-      (sym (drop-drop d (oldest ws) ws) ∙ i .0 ∙ ap (λ (x : ℕ). records x n s) (sym z), omega (arith, z, i .1))
+  pub drops-kept : {b : Bool} {c t : ℕ} {xs : List ℕ} {d : ℕ} (k : ℕ) (ws : List Way) → Recorded ws → k ≤ length ws → xs ≡ records k ws s → Drops b c t xs d
+      → (drop d xs ≡ records (fitting (c - t) k ws s) ws s) × (fitting (c - t) k ws s ≤ k)
+  drops-kept {c = c} {t = t} k ws h l e (enough {ws = xs} r) =
+      let z : fitting (c - t) k ws s ≡ k = fitting-all k ws (c - t) (omega (arith, ap length e)) in
+      (e ∙ ap (λ (x : ℕ). records x ws s) (sym z), omega (arith, z))
+  drops-kept {c = c} {t = t} zero ws h l e (another {ws = xs} {d} q r f) = absurd (omega (arith, ap length e, drops-room f .1))
+  drops-kept {c = c} {t = t} (suc k) ws h l e (another {ws = xs} {d} q r f) =
+      let y : drop (oldest xs) xs ≡ records k ws s = ap (λ (x : List ℕ). drop (oldest x) x) e ∙ oldest-dropped (first k ws h l) (begins k ws h (omega arith)) in
+      let i : (drop d (drop (oldest xs) xs) ≡ records (fitting (c - t) k ws s) ws s) × _ = drops-kept k ws h (omega arith) y f in
+      let z : fitting (c - t) (suc k) ws s ≡ fitting (c - t) k ws s = fitting-less k ws (c - t) (omega (arith, ap length e, drops-room f .1)) in
+      (sym (drop-drop d (oldest xs) xs) ∙ i .0 ∙ ap (λ (x : ℕ). records x ws s) (sym z), omega (arith, z, i .1))

@@ -7,32 +7,32 @@ use native.Mathlib.Omega.{arith}
 use lib.ListN.{length}
 use Rattle.rules.specs.Machine.{State}
 use Rattle.rules.specs.Answers.{answerFor, wrongLength}
-use Rattle.rules.specs.Calls.{fits, Reply, done, refused, left, step, stepStores, Report, report, onto, steps, run}
-use Rattle.rules.specs.Demands.{Accepted, AllAccepted, forward, total, Ends, full, cut}
+use Rattle.rules.specs.Calls.{instruction, fits, Reply, done, refused, left, step, stepStores, Report, report, onto, steps, run}
+use Rattle.rules.specs.Demands.{Accepted, AllAccepted, forward, total, instructions, Ends, full, cut}
 
 -- ---- the first step comes first
 
-forward-first : (n : ℕ) (s : State) → forward (suc n) s ≡ forward n (left (step s))
+forward-first : (n : ℕ) (s : State) → forward (instructions (suc n)) s ≡ forward (instructions n) (left (step instruction s))
 forward-first zero s = refl
-forward-first (suc n) s = ap (λ (x : State). left (step x)) (forward-first n s)
+forward-first (suc n) s = ap (λ (x : State). left (step instruction x)) (forward-first n s)
 
-total-first : (n : ℕ) (s : State) → total (suc n) s ≡ length (stepStores s) + total n (left (step s))
+total-first : (n : ℕ) (s : State) → total (instructions (suc n)) s ≡ length (stepStores instruction s) + total (instructions n) (left (step instruction s))
 total-first zero s = omega arith
-total-first (suc n) s = omega (arith, total-first n s, ap (λ (x : State). length (stepStores x)) (forward-first n s))
+total-first (suc n) s = omega (arith, total-first n s, ap (λ (x : State). length (stepStores instruction x)) (forward-first n s))
 
-accepted-first : (n : ℕ) (s : State) → Accepted (step s) → AllAccepted n (left (step s)) → AllAccepted (suc n) s
+accepted-first : (n : ℕ) (s : State) → Accepted (step instruction s) → AllAccepted (instructions n) (left (step instruction s)) → AllAccepted (instructions (suc n)) s
 accepted-first zero s a h = (tt, a)
-accepted-first (suc n) s a h = (accepted-first n s a (h .0), subst (λ (x : State). Accepted (step x)) (sym (forward-first n s)) (h .1))
+accepted-first (suc n) s a h = (accepted-first n s a (h .0), subst (λ (x : State). Accepted (step instruction x)) (sym (forward-first n s)) (h .1))
 
 -- ---- by induction on the number of steps
 
-ends-before : (n : ℕ) (s : State) (r : Report) → Accepted (step s) → Ends n (left (step s)) r
-    → Ends (suc n) s (report (r .answer) (suc (r .steps)) (length (stepStores s) + r .stores) (r .end))
+ends-before : (n : ℕ) (s : State) (r : Report) → Accepted (step instruction s) → Ends n (left (step instruction s)) r
+    → Ends (suc n) s (report (r .answer) (suc (r .steps)) (length (stepStores instruction s) + r .stores) (r .end))
 ends-before n s r a (full h) = rw (← total-first n s, ← forward-first n s) (full (accepted-first n s a h))
 ends-before n s r a (cut {k} l h e) =
-    rw (← total-first k s) (cut (suc-le-suc l) (accepted-first k s a h) (ap step (forward-first k s) ∙ e))
+    rw (← total-first k s) (cut (suc-le-suc l) (accepted-first k s a h) (ap (step instruction) (forward-first k s) ∙ e))
 
-ends-onto : (n : ℕ) (s : State) (p : Reply) (r : Report) → step s ≡ p → Ends n (left p) r → Ends (suc n) s (onto p (length (stepStores s)) r)
+ends-onto : (n : ℕ) (s : State) (p : Reply) (r : Report) → step instruction s ≡ p → Ends n (left p) r → Ends (suc n) s (onto p (length (stepStores instruction s)) r)
 ends-onto n s (done t) r e h =
     ends-before n s r (subst Accepted (sym e) tt) (subst (λ (x : Reply). Ends n (left x) r) (sym e) h)
 ends-onto n s (refused a t) r e h = cut (zero-lt-suc n) tt e
@@ -40,7 +40,7 @@ ends-onto n s (refused a t) r e h = cut (zero-lt-suc n) tt e
 pub steps-end : (n : ℕ) (s : State) → Ends n s (steps n s)
 unfolding steps
 steps-end zero s = full tt
-steps-end (suc n) s = ends-onto n s (step s) (steps n (left (step s))) refl (steps-end n (left (step s)))
+steps-end (suc n) s = ends-onto n s (step instruction s) (steps n (left (step instruction s))) refl (steps-end n (left (step instruction s)))
 
 -- A run whose parts fit ends as its steps do; any other answers 11 and touches nothing.
 pub run-ends : (n : ℕ) (s : State) → fits (s .mem) ≡ true → Ends n s (run n s)

@@ -2,35 +2,37 @@
 use mathlib.Core.Path.{_≡_, refl, _∙_, ap, ap₂, sym, subst}
 use mathlib.Core.Bool.{Bool, true, false}
 use mathlib.Core.List.{List, [], _∷_, map}
-use Prim.Native.Nat.{ℕ, zero, suc, _+_, _-_, _≤_, _<_}
+use Prim.Native.Nat.{ℕ, zero, suc, _+_, _-_, _/_, _%_, _^_, _≤_, _<_}
 use native.Mathlib.Nat.{mod-lt, le-refl}
 use native.Mathlib.Omega.{arith}
 use lib.Dec.{ltb, lit<}
 use lib.ListN.{length, getD, set, length-set}
 use lib.Seq.{sets, getD-set-same, getD-set-other}
 use borrow.Author.Tests.{lt-ltb}
-use Rattle.rules.specs.Machine.{pick, _also_, Kind, Area, extent, writable, Mem, area, State, state, beside, over, atRest, onward}
+use Rattle.rules.specs.Machine.{pick, _also_, bit, Kind, Area, extent, writable, Mem, area, State, state, flagged, address, beside, over, atRest, onward}
 use Rattle.rules.specs.Answers.{Answer, answerFor, noRoom, offGrom}
 use Rattle.rules.specs.Journal.{markWord, lay, Store, wordOf, make, Note, stood, mark, note, undoTop, undo, blank, blanked, forget}
-use Rattle.rules.specs.Rules.{Act, next, ask, jump, load, store, Deed, Out, got, stopped, then, room, spare, perform, after, stores, storesThen}
-use Rattle.rules.specs.Opcodes.{Class, stops, does, classOf}
-use Rattle.rules.specs.Tasks.{ruleOf}
-use Rattle.rules.specs.Calls.{Reply, done, refused, takeMark, begin, attempt, taken, emptied, settle, fitStep, beginStores, stepStores, Find, found, further, seen, scan, backTo, fitBack}
+use Rattle.rules.specs.Rules.{Act, next, ask, jump, load, store, send, Rule, Out, got, stopped, then, room, spare, perform, after, stores, storesThen}
+use Rattle.rules.specs.Opcodes.{classOf}
+use Rattle.rules.specs.Sound.{Source, tickRule}
+use Rattle.rules.specs.Tasks.{Plan, halt, go, planOf}
+use Rattle.rules.specs.Calls.{Way, instruction, tick, Reply, done, refused, takeMark, begin, attempt, taken, emptied, settle, fitStep, beginStores, stepStores}
+use Rattle.rules.specs.Calls.{Find, found, further, seen, scan, backTo, fitBack}
 use Rattle.rules.specs.Demands.{Bytes, Good}
 use Rattle.rules.proofs.Stores.{memOf, Made, none, one, used-after, older-after, place-after, ring-after, journal-after, area-after}
 use Rattle.rules.proofs.Laid.{Sane, not-found, Late, late-rule}
 use Rattle.rules.proofs.Undo.{note-mark, note-store, bytes-after, set-blank, undo-lay, rollback}
-use Rattle.rules.proofs.Kept.{Held, by-test, Holds, attempt-holds}
+use Rattle.rules.proofs.Kept.{Point, Held, by-test, Holds, attempt-holds}
 
 -- ---- the address stays one of 16 bits
 
-abbrev In16 : State → Type 0
+abbrev In16 : Point → Type 0
 In16 s = s .pc < 65536
 
 abbrev Any : Answer → Type 0
 Any a = Unit {0}
 
-in16-act : (q : Act) (s : State) → In16 s → Held In16 Any (perform q (s .pc) (s .mem))
+in16-act : (q : Act) (s : Point) → In16 s → Held In16 Any (perform q (s .pc) (s .mem))
 unfolding perform
 in16-act next s h = by-test In16 Any (ltb (s .pc) (length (s .mem .image))) _ _ (omega arith) tt
 in16-act ask s h = h
@@ -39,56 +41,59 @@ in16-act (load k a) s h = by-test In16 Any (ltb a (extent (area (s .mem)) k)) _ 
 in16-act (store k a b) s h =
     by-test In16 Any (ltb a (extent (area (s .mem)) k)) _ _
     (by-test In16 Any (writable (area (s .mem)) k a) _ _ (by-test In16 Any (room (spare (s .mem))) _ _ h tt) tt) tt
+in16-act (send b) s h = h
 
-in16-mark : (pc : ℕ) (s : State) → In16 s → Held In16 Any (takeMark pc (s .pc) (s .mem))
+in16-mark : (a : ℕ) (s : Point) → In16 s → Held In16 Any (takeMark a (s .pc) (s .mem))
 unfolding takeMark
-in16-mark pc s h = by-test In16 Any (room (spare (s .mem))) _ _ h tt
+in16-mark a s h = by-test In16 Any (room (spare (s .mem))) _ _ h tt
 
 in16 : Holds In16 Any
 in16 = record { acts = in16-act; marks = in16-mark; refuses = λ why. tt }
 
 -- ---- how an attempt ends: nothing done, or a mark and then stores
 
-pub data Tried (pc : ℕ) (m : Mem) : List Store → Out (Unit {0}) → Type 0 where
-  early : {a : Answer} → Tried pc m [] (stopped a m)
-  late : {ss : List Store} {o : Out (Unit {0})} → Late pc m ss (memOf o) → Tried pc m ss o
+pub data Tried (a : ℕ) (m : Mem) : List Store → Out Source → Type 0 where
+  early : {x : Answer} → Tried a m [] (stopped x m)
+  late : {ss : List Store} {o : Out Source} → Late a m ss (memOf o) → Tried a m ss o
 
-module _ (pc : ℕ) (m : Mem) (s : Sane m) where
+module _ (a : ℕ) (m : Mem) (s : Sane m) where
   -- what is taken where a word is left, and where none is
   took : ℕ → Bool → Out (Unit {0})
-  took pc₁ c = pick c (got tt pc₁ (lay (markWord pc) (spare m))) (stopped (answerFor noRoom) (spare m))
+  took pc₁ c = pick c (got tt pc₁ (lay (markWord a) (spare m))) (stopped (answerFor noRoom) (spare m))
 
-  tried-does : (r : Deed) (pc₁ : ℕ) (c : Bool) → room (spare m) ≡ c
-      → Tried pc m (storesThen (took pc₁ c) (λ _ pc₂ m₂. stores r pc₂ m₂)) (after (took pc₁ c) r)
+  tried-rule : (r : Rule Source) (pc₁ : ℕ) (c : Bool) → room (spare m) ≡ c
+      → Tried a m (storesThen (took pc₁ c) (λ _ pc₂ m₂. stores r pc₂ m₂)) (after (took pc₁ c) r)
   unfolding took after
-  tried-does r pc₁ true e = late (late-rule pc pc₁ m r s e)
-  tried-does r pc₁ false e = subst (λ (x : Mem). Tried pc m [] (stopped (answerFor noRoom) x)) (sym (not-found m s e)) early
+  tried-rule r pc₁ true e = late (late-rule a pc₁ m r s e)
+  tried-rule r pc₁ false e = subst (λ (x : Mem). Tried a m [] (stopped (answerFor noRoom) x)) (sym (not-found m s e)) early
 
-  pub tried-begin : (c : Class) (pc₁ : ℕ) → Tried pc m (beginStores pc c pc₁ m) (begin pc c pc₁ m)
+  pub tried-begin : (p : Plan) (pc₁ : ℕ) → Tried a m (beginStores a p pc₁ m) (begin a p pc₁ m)
   unfolding begin beginStores takeMark took
-  tried-begin (stops why) pc₁ = early
-  tried-begin (does t) pc₁ = tried-does (ruleOf t) pc₁ _ refl
+  tried-begin (halt why) pc₁ = early
+  tried-begin (go r) pc₁ = tried-rule r pc₁ _ refl
 
-  tried-next : (c : Bool)
-      → Tried pc m (storesThen (pick c (got (getD (m .image) pc 0) (onward pc) m) (stopped (answerFor (offGrom pc)) m))
-      (λ op pc₁ m₁. beginStores pc (classOf op) pc₁ m₁))
-      (then (pick c (got (getD (m .image) pc 0) (onward pc) m) (stopped (answerFor (offGrom pc)) m)) (λ op pc₁ m₁. begin pc (classOf op) pc₁ m₁))
-  tried-next true = tried-begin (classOf (getD (m .image) pc 0)) (onward pc)
-  tried-next false = early
+  tried-next : (v : Source) (pc : ℕ) (c : Bool)
+      → Tried a m (storesThen (pick c (got (getD (m .image) pc 0) (onward pc) m) (stopped (answerFor (offGrom pc)) m))
+      (λ op pc₁ m₁. beginStores a (planOf v (classOf op)) pc₁ m₁))
+      (then (pick c (got (getD (m .image) pc 0) (onward pc) m) (stopped (answerFor (offGrom pc)) m)) (λ op pc₁ m₁. begin a (planOf v (classOf op)) pc₁ m₁))
+  tried-next v pc true = tried-begin (planOf v (classOf (getD (m .image) pc 0))) (onward pc)
+  tried-next v pc false = early
 
 pub rest-sane : (m : Mem) → m .used ≤ length (m .journal) → Sane (atRest m)
 rest-sane m h = record { used = h; older = omega arith }
 
-pub tried : (s : State) → s .mem .used ≤ length (s .mem .journal) → Tried (s .pc) (atRest (s .mem)) (stepStores s) (attempt s)
+pub tried : (w : Way) (s : State) → s .mem .used ≤ length (s .mem .journal) → Tried (address s) (atRest (s .mem)) (stepStores w s) (attempt w s)
 unfolding attempt stepStores perform
-tried s h = tried-next (s .pc) (atRest (s .mem)) (rest-sane (s .mem) h) (ltb (s .pc) (length (s .mem .image)))
+tried instruction s h =
+    tried-next (address s) (atRest (s .mem)) (rest-sane (s .mem) h) (s .source) (s .pc) (ltb (s .pc) (length (s .mem .image)))
+tried (tick n) s h = tried-begin (address s) (atRest (s .mem)) (rest-sane (s .mem) h) (go (tickRule n (s .source))) (s .pc)
 
 -- ---- what a step leaves
 
 -- it was done: a mark, then its stores
 pub record Stepped (s : State) (ss : List Store) (t : State) : Type 0 where
   pub end : Mem
-  pub late : Late (s .pc) (atRest (s .mem)) ss end
+  pub late : Late (address s) (atRest (s .mem)) ss end
   pub rests : t .mem ≡ atRest end
   pub good : Good t
 
@@ -96,15 +101,15 @@ abbrev pub Settled : State → List Store → Reply → Type 0
 Settled s ss (done t) = Stepped s ss t
 Settled s ss (refused n t) = Unit {0}
 
-settle-is : (s : State) (ss : List Store) (o : Out (Unit {0})) → Good s → Tried (s .pc) (atRest (s .mem)) ss o → Held In16 Any o → Settled s ss (settle s o)
+settle-is : (s : State) (ss : List Store) (o : Out Source) → Good s → Tried (address s) (atRest (s .mem)) ss o → Held In16 Any o → Settled s ss (settle s o)
 settle-is s ss (got a pc₁ m₁) g (late h) k =
     let b : Bytes m₁ = bytes-after (h .makes) (g .bytes) in
     record { end = m₁; late = h; rests = refl; good = record { address = k; bytes = b } }
 settle-is s ss (stopped n m₁) g t k = tt
 
-pub settled : (s : State) → Good s → s .mem .used ≤ length (s .mem .journal) → Settled s (stepStores s) (fitStep s)
+pub settled : (w : Way) (s : State) → Good s → s .mem .used ≤ length (s .mem .journal) → Settled s (stepStores w s) (fitStep w s)
 unfolding fitStep
-settled s g h = settle-is s (stepStores s) (attempt s) g (tried s h) (attempt-holds in16 s (g .address))
+settled w s g h = settle-is s (stepStores w s) (attempt w s) g (tried w s h) (attempt-holds in16 w s (g .address))
 
 -- ---- a step undone
 
@@ -128,14 +133,14 @@ emptied-late {pc} {m} {m₁} {ss} r h =
     rw (words, o, place-after (h .makes), ring-after (h .makes), r)
 
 -- the mark and the stores, undone word by word
-pub undo-step : {pc : ℕ} (m : Mem) {m′ : Mem} {ss : List Store} → pc < 65536 → Bytes m → m .used < length (m .journal) → Made (lay (markWord pc) m) ss m′
+pub undo-step : {pc : ℕ} (m : Mem) {m′ : Mem} {ss : List Store} → pc < 131072 → Bytes m → m .used < length (m .journal) → Made (lay (markWord pc) m) ss m′
     → undo (suc (length ss)) m′ ≡ blanked (suc (length ss)) m
 unfolding undo
 undo-step {pc} m {ss = ss} a b h t =
     ap (λ (x : Mem). undoTop (x .used) x) (rollback b t) ∙ undo-lay (length ss) (markWord pc) (mark pc) m (note-mark pc a) h
 
 -- so a refused step may be put back word by word: that gives what the rules say of it
-pub rollback-step : {pc : ℕ} {m m₁ : Mem} {ss : List Store} {a : Answer} → pc < 65536 → Bytes m → m .older ≡ m .used → Tried pc m ss (stopped a m₁)
+pub rollback-step : {pc : ℕ} {m m₁ : Mem} {ss : List Store} {a : Answer} → pc < 131072 → Bytes m → m .older ≡ m .used → Tried pc m ss (stopped a m₁)
     → undo (taken m₁) m₁ ≡ over (emptied m₁) m
 unfolding undo
 rollback-step {m = m} a b r early =
@@ -164,8 +169,8 @@ module _ (z : Area) where
   unfolding _also_
   seen-store k a b f h w = rw (lt-ltb a (extent z k) h, w)
 
-  seen-mark : (pc : ℕ) (f : Find) → pc < 65536 → seen z (mark pc) f ≡ found 1 pc
-  seen-mark pc f h = rw (lt-ltb pc 65536 h)
+  seen-mark : (pc : ℕ) (f : Find) → pc < 131072 → seen z (mark pc) f ≡ found 1 pc
+  seen-mark pc f h = rw (lt-ltb pc 131072 h)
 
 -- stores on top of a mark leave it the newest
 scan-made : {m m′ : Mem} {ss : List Store} (n pc : ℕ) → Bytes m → Made m ss m′ → scan (area m) (m .used) (m .journal) ≡ found n pc
@@ -184,8 +189,8 @@ scan-made {m} n pc b (one {s} {ss} h t) e =
     ∙ ap (λ (k : ℕ). found k pc) more
 
 -- a mark and stores on top of a machine are taken off again
-pub back-made : {pc : ℕ} (m : Mem) {ss : List Store} (t : State) → pc < 65536 → Bytes m → m .used < length (m .journal) → Made (lay (markWord pc) m) ss (t .mem)
-    → fitBack t ≡ done (state pc (atRest (blanked (suc (length ss)) m)))
+back-made : {pc : ℕ} (m : Mem) {ss : List Store} (t : State) → pc < 131072 → Bytes m → m .used < length (m .journal) → Made (lay (markWord pc) m) ss (t .mem)
+    → fitBack t ≡ done (state (pc % 65536) (bit 16 pc) (atRest (blanked (suc (length ss)) m)))
 unfolding fitBack
 back-made {pc} m {ss} t l b h k =
     let z : 1 + length ss ≡ suc (length ss) = omega arith in
@@ -197,7 +202,32 @@ back-made {pc} m {ss} t l b h k =
     scan-lay y u w (m .journal) h ∙ ap (λ (x : Note). seen y x older) (note-mark pc l) ∙ seen-mark y pc older l in
     let e : scan (area (t .mem)) (t .mem .used) (t .mem .journal) ≡ found (1 + length ss) pc = scan-made 1 pc b k newest in
     ap (λ (f : Find). backTo f t) (e ∙ ap (λ (k : ℕ). found k pc) z)
-    ∙ ap (λ (x : Mem). done (state pc (atRest x))) (undo-step m l b h k)
+    ∙ ap (λ (x : Mem). done (state (pc % 65536) (bit 16 pc) (atRest x))) (undo-step m l b h k)
+
+-- ---- the flag above the address, and both again
+
+pub flagged-small : (pc : ℕ) (v : Bool) → pc < 65536 → flagged pc v < 131072
+flagged-small pc true h = omega arith
+flagged-small pc false h = omega arith
+
+pub flagged-parts : (pc : ℕ) (v : Bool) (m : Mem) → pc < 65536 → state (flagged pc v % 65536) (bit 16 (flagged pc v)) m ≡ state pc v m
+unfolding bit
+flagged-parts pc true m h =
+    let low : (65536 + pc) % 65536 ≡ pc = omega arith in
+    let top : (65536 + pc) / 2 ^ 16 ≡ 1 = omega arith in
+    rw (low, top)
+flagged-parts pc false m h =
+    let low : pc % 65536 ≡ pc = omega arith in
+    let top : pc / 2 ^ 16 ≡ 0 = omega arith in
+    rw (low, top)
+
+pub address-small : {s : State} → Good s → address s < 131072
+address-small {s} g = flagged-small (s .pc) (s .source) (g .address)
+
+-- so a step is taken back to where it began
+pub back-late : {s : State} (m : Mem) {ss : List Store} (t : State) → Good s → Bytes m → m .used < length (m .journal)
+    → Made (lay (markWord (address s)) m) ss (t .mem) → fitBack t ≡ done (state (s .pc) (s .source) (atRest (blanked (suc (length ss)) m)))
+back-late {s} m t g b h k = back-made m t (address-small g) b h k ∙ ap done (flagged-parts (s .pc) (s .source) _ (g .address))
 
 -- the same stores beside another journal
 pub rebase : {m m′ : Mem} {ss : List Store} (b : Mem) → b .used + length ss ≤ length (b .journal) → Made m ss m′

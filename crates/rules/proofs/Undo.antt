@@ -66,11 +66,11 @@ note-word k a b h l =
     let y : (a * 256 + b) % 256 ≡ b = omega arith in
     ap₂ noteOf top low ∙ noteOf-kind k (a * 256 + b) ∙ ap₂ (stood k) x y
 
-pub note-mark : (pc : ℕ) → pc < 65536 → note (markWord pc) ≡ mark pc
+pub note-mark : (a : ℕ) → a < 131072 → note (markWord a) ≡ mark a
 unfolding note markWord
-note-mark pc h =
-    let top : (3 * 2 ^ 29 + pc) / 2 ^ 29 ≡ 3 = omega arith in
-    let low : (3 * 2 ^ 29 + pc) % 2 ^ 29 ≡ pc = omega arith in
+note-mark a h =
+    let top : (3 * 2 ^ 29 + a) / 2 ^ 29 ≡ 3 = omega arith in
+    let low : (3 * 2 ^ 29 + a) % 2 ^ 29 ≡ a = omega arith in
     rw (top, low)
 
 -- ---- bytes stay bytes
@@ -158,7 +158,7 @@ put-back k a b m = go k (set-set (cells k m) a b _ ∙ set-getD (cells k m) a 0)
 
 pub restore-beside : (x : Note) (j : List ℕ) (u : ℕ) (m : Mem) → restore x (beside j u m) ≡ beside j u (restore x m)
 restore-beside (stood k a b) j u m = refl
-restore-beside (mark pc) j u m = refl
+restore-beside (mark a) j u m = refl
 restore-beside nothing j u m = refl
 
 -- a word laid on top, with n blank words above it: it is read and taken off

@@ -33,6 +33,8 @@ pub data Why : Type 0 where
   tooCoarse : Why
   -- 02, item 9: "group not writable"
   readOnly : Why
+  -- 02, item 10: "output full"
+  outputFull : Why
 
 -- the answer's number
 abbrev pub number : Why → ℕ
@@ -50,6 +52,7 @@ number noRecord = 12
 number offRegister = 13
 number tooCoarse = 23
 number readOnly = 24
+number outputFull = 26
 
 -- 02, item 2: "It is 0 for every other answer"
 abbrev pub address : Why → ℕ
@@ -67,6 +70,7 @@ address noRecord = 0
 address offRegister = 0
 address tooCoarse = 0
 address readOnly = 0
+address outputFull = 0
 
 -- what a call says: its number, and the address that "must come out with the refusal"
 pub record Answer : Type 0 where

@@ -78,7 +78,7 @@ comesOut c r =
     also eqb (r .end .pc) (c .pc) also allHold (c .left) (r .end .mem)
 
 unfoldable pub passes : Case → Bool
-passes c = comesOut c (run (c .run) (state (c .from) (poured (c .given) (bench (c .image)))))
+passes c = comesOut c (run (c .run) (state (c .from) false (poured (c .given) (bench (c .image)))))
 
 unfoldable pub everyPasses : List Case → Bool
 everyPasses [] = true

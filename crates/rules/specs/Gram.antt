@@ -30,7 +30,7 @@ pub record Card : Type 0 where
 -- >73 = >7E, all else 0
 abbrev pub carded : Card → State
 carded c =
-    state 0 (put cpu subPointer 0x7E (mem (burnt (c .image) (replicate (c .size * group) 0)) (c .writable) (replicate (size cpu) 0) (replicate (size vdp) 0)
+    state 0 false (put cpu subPointer 0x7E (mem (burnt (c .image) (replicate (c .size * group) 0)) (c .writable) (replicate (size cpu) 0) (replicate (size vdp) 0)
     (replicate (size register) 0) (replicate (c .room) 0) 0 0 0 false))
 
 -- the journal's words, each as it should be
@@ -150,7 +150,7 @@ takenBack c before =
 -- a step of one store, whose word is this, in an image of one group: the step back answers
 unfoldable pub backAnswers : ℕ → ℕ → ℕ
 backAnswers w word =
-    answer (stepBack (state 0 (mem (replicate group 0) w (replicate (size cpu) 0) (replicate (size vdp) 0) (replicate (size register) 0)
+    answer (stepBack (state 0 false (mem (replicate group 0) w (replicate (size cpu) 0) (replicate (size vdp) 0) (replicate (size register) 0)
     (0x60000000 ∷ word ∷ []) 2 2 0 false))) .number
 
 -- "Step-back's 12 covers kinds 5 to 7 and kind 4 outside those groups or beyond the image."

@@ -17,9 +17,9 @@ kindNumber k = upon k 0 1 2 4
 unfoldable pub word : Kind → ℕ → ℕ → ℕ
 word k a b = kindNumber k * 2 ^ 29 + a * 256 + b
 
--- "kind 3 is a mark and carries the old pc in its low 16 bits"
+-- "kind 3 is a mark and carries the old pc in its low 16 bits"; 02, item 10: "The source flag .. is bit 16 of the mark word"
 unfoldable pub markWord : ℕ → ℕ
-markWord pc = 3 * 2 ^ 29 + pc
+markWord a = 3 * 2 ^ 29 + a
 
 -- ---- a store
 
@@ -49,7 +49,7 @@ make s m = lay (wordOf s) (put (s .kind) (s .at) (s .new) m)
 pub data Note : Type 0 where
   -- the byte b stood in a cell
   stood : Kind → ℕ → ℕ → Note
-  -- a step began at this address
+  -- a step began at this address, with this source flag above it
   mark : ℕ → Note
   -- there is no such kind
   nothing : Note
@@ -74,7 +74,7 @@ note w = noteOf (w / 2 ^ 29) (w % 2 ^ 29)
 -- 02, item 9: nor of "kinds 5 to 7 and kind 4 outside those groups or beyond the image"
 abbrev pub sound : Area → Note → Bool
 sound z (stood k a b) = ltb a (extent z k) also writable z k a
-sound z (mark pc) = ltb pc 65536
+sound z (mark a) = ltb a 131072
 sound z nothing = false
 
 -- ---- words taken off: "takes words from the top down .., restores each, .. zeroes them"
@@ -82,7 +82,7 @@ sound z nothing = false
 -- a cell gets back the byte that stood there
 abbrev pub restore : Note → Mem → Mem
 restore (stood k a b) m = put k a b m
-restore (mark pc) m = m
+restore (mark a) m = m
 restore nothing m = m
 
 -- the word at u is zeroed, and no longer used

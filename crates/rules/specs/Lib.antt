@@ -9,9 +9,11 @@ pub mod Arithmetic
 pub mod Instructions
 pub mod Format
 pub mod Coincidence
+pub mod Sound
 pub mod Tasks
 pub mod Calls
 pub mod Demands
 pub mod Cards
 pub mod Gram
 pub mod Rings
+pub mod Tunes

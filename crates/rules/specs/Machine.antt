@@ -84,13 +84,21 @@ mem i w p v r j u o a c = record { image = i; groups = w; pad = p; vram = v; reg
 abbrev pub area : Mem → Area
 area m = areaOf (length (m .image)) (m .groups)
 
--- "Program address (pc) | 16 bits"
+-- "Program address (pc) | 16 bits". 02, item 10: "The source flag stands beside pc": whether a sound list is in VDP RAM, else it is in GROM
 pub record State : Type 0 where
   pub pc : ℕ
+  pub source : Bool
   pub mem : Mem
 
-abbrev pub state : ℕ → Mem → State
-state pc m = record { pc = pc; mem = m }
+abbrev pub state : ℕ → Bool → Mem → State
+state pc v m = record { pc = pc; source = v; mem = m }
+
+-- "and is bit 16 of the mark word; demands 1 to 3 count it as part of the address": the flag above pc
+abbrev pub flagged : ℕ → Bool → ℕ
+flagged pc v = pick v (65536 + pc) pc
+
+abbrev pub address : State → ℕ
+address s = flagged (s .pc) (s .source)
 
 -- the cells of one kind
 abbrev pub cells : Kind → Mem → List ℕ
@@ -165,6 +173,14 @@ xpt = 0x7F
 -- ">C0 and >C1 random seed"
 abbrev pub seedCell : ℕ
 seedCell = 0xC0
+
+-- 02, item 10: "the pad word at the destination goes to >CC": the address of a sound list
+abbrev pub listCell : ℕ
+listCell = 0xCC
+
+-- "then 1 to >CE": its count of ticks
+abbrev pub countCell : ℕ
+countCell = 0xCE
 
 -- ">D4 copy of VDP register 1"
 abbrev pub registerCopy : ℕ

@@ -35,10 +35,12 @@ pub data Task : Type 0 where
   ex : Width → Task
   coinc : Task
 
--- an opcode is stopped by 1, 2 or 3, or has a task
+-- an opcode is stopped by 1, 2 or 3, has a task, or starts a sound list
 pub data Class : Type 0 where
   stops : Why → Class
   does : Task → Class
+  -- with an immediate source or not
+  starts : Bool → Width → Class
 
 -- the row at n; past the last one, no such instruction
 abbrev pub row : ℕ → List Class → Class
@@ -81,7 +83,8 @@ twoRows imm w =
     ∷ does (two sra imm w) ∷ does (two sll imm w) ∷ does (two srl imm w) ∷ does (two src imm w)
     ∷ pick imm (stops noSuch) (pick w (does coinc) (stops noSuch)) ∷ []
 
--- ">40 to >5F BR; >60 to >7F BS. From >80 on, bit 0 means word." ">F4 to >F7" are under 3; "the rest not named here or under 1 and 3 answer 2"
+-- ">40 to >5F BR; >60 to >7F BS. From >80 on, bit 0 means word." "the rest not named here or under 1 and 3 answer 2".
+-- 02, item 10: "Let >F4 to >F7, two operands in 01's way, start a list"
 unfoldable pub classOf : ℕ → Class
 classOf op =
     pick (ltb op 0x10) (row op lowRows)
@@ -92,4 +95,4 @@ classOf op =
     (pick (ltb op 0x80) (does (branch true (op % 32)))
     (pick (ltb op 0xA0) (row ((op - 0x80) / 2) (oneRows (bit 0 op)))
     (pick (ltb op 0xF4) (row ((op - 0xA0) / 4) (twoRows (bit 1 op) (bit 0 op)))
-    (pick (ltb op 0xF8) (stops needsHost) (stops noSuch)))))))))
+    (pick (ltb op 0xF8) (starts (bit 1 op) (bit 0 op)) (stops noSuch)))))))))

@@ -6,7 +6,7 @@ use lib.Dec.{eqb}
 use lib.ListN.{replicate}
 use Rattle.rules.specs.Machine.{_also_, cpu, vdp, register, size, group, mem, State, state}
 use Rattle.rules.specs.Journal.{turned}
-use Rattle.rules.specs.Calls.{answer, left}
+use Rattle.rules.specs.Calls.{instruction, answer, left}
 use Rattle.rules.specs.Demands.{Op, forth, aback, reply}
 use Rattle.rules.specs.Cards.{Code, code, burnt}
 
@@ -54,7 +54,7 @@ answering c (o ∷ os) (a ∷ rest) s = eqb (answer (reply o s) .number) a also 
 -- other cells 0, an image of one group
 abbrev pub given : Case → State
 given c =
-    state (c .from) (mem (burnt (c .image ∷ []) (replicate group 0)) 0 (replicate (size cpu) 0) (replicate (size vdp) 0) (replicate (size register) 0)
+    state (c .from) false (mem (burnt (c .image ∷ []) (replicate group 0)) 0 (replicate (size cpu) 0) (replicate (size vdp) 0) (replicate (size register) 0)
     (turned (c .ring) (c .lent .place) (c .lent .words)) (c .lent .used) (c .lent .used) (c .lent .place) (c .ring))
 
 unfoldable pub passes : Case → Bool
@@ -85,7 +85,7 @@ going pc ring lent calls answers pc₁ left =
 
 -- n steps, n step-backs, n accepted calls
 abbrev pub steps : ℕ → List Op
-steps n = replicate n forth
+steps n = replicate n (forth instruction)
 
 abbrev pub backs : ℕ → List Op
 backs n = replicate n aback
@@ -117,5 +117,5 @@ ringFacts =
     -- "Lent words with no mark below them are dropped together, as one oldest step."
     ∷ going 0 true (book (7 ∷ 8 ∷ 9 ∷ br ∷ 6 ∷ []) 5 0) (steps 1) (fine 1) 2 (book (inc ∷ 0x7C00 ∷ 0 ∷ br ∷ 6 ∷ []) 5 3)
     -- "11 if not 0 and past the journal"
-    ∷ going 0 true (book (replicate 7 0) 0 7) (forth ∷ aback ∷ []) (11 ∷ 11 ∷ []) 0 (book (replicate 7 0) 0 7)
+    ∷ going 0 true (book (replicate 7 0) 0 7) (forth instruction ∷ aback ∷ []) (11 ∷ 11 ∷ []) 0 (book (replicate 7 0) 0 7)
     ∷ []

@@ -1,4 +1,4 @@
--- How a rule is written: as a program over five actions, in `do` notation, so that an instruction can be read line by line beside its sentence.
+-- How a rule is written: as a program over six actions, in `do` notation, so that an instruction can be read line by line beside its sentence.
 use mathlib.Core.Bool.{Bool, true, false}
 use mathlib.Core.List.{List, [], _∷_, _++_}
 use Prim.Native.Nat.{ℕ, _+_, _%_}
@@ -22,6 +22,8 @@ pub data Act : Type 0 where
   load : Kind → ℕ → Act
   -- a byte into a cell
   store : Kind → ℕ → ℕ → Act
+  -- 02, item 10: a byte to an output, which leaves the machine as it is
+  send : ℕ → Act
 
 -- a value, a refusal, or an action and how the rule goes on with what it gives
 pub data Rule (A : Type 0) : Type 0 where
@@ -77,6 +79,7 @@ perform (store k a b) pc m =
     (pick (room (spare m)) (got 0 pc (make (storeOf k a (b % 256) m) (spare m))) (stopped (answerFor noRoom) (spare m)))
     (stopped (answerFor readOnly) m))
     (stopped (answerFor (outside k a)) m)
+perform (send b) pc m = got 0 pc m
 
 unfoldable pub exec : {A : Type 0} → Rule A → ℕ → Mem → Out A
 exec (give a) pc m = got a pc m
@@ -101,6 +104,7 @@ actStores (jump a) m = []
 actStores (load k a) m = []
 actStores (store k a b) m =
     pick (ltb a (extent (area m) k)) (pick (writable (area m) k a) (pick (room (spare m)) (storeOf k a (b % 256) m ∷ []) []) []) []
+actStores (send b) m = []
 
 abbrev pub storesThen : {A : Type 0} → Out A → (A → ℕ → Mem → List Store) → List Store
 storesThen (got a pc m) f = f a pc m
@@ -110,6 +114,29 @@ unfoldable pub stores : {A : Type 0} → Rule A → ℕ → Mem → List Store
 stores (give a) pc m = []
 stores (refuse why) pc m = []
 stores (act q k) pc m = actStores q m ++ storesThen (perform q pc m) (λ v pc₁ m₁. stores (k v) pc₁ m₁)
+
+-- ---- the bytes that it sends, in their order
+
+unfoldable pub actSent : Act → List ℕ
+actSent next = []
+actSent ask = []
+actSent (jump a) = []
+actSent (load k a) = []
+actSent (store k a b) = []
+actSent (send b) = b ∷ []
+
+abbrev pub sentThen : {A : Type 0} → Out A → (A → ℕ → Mem → List ℕ) → List ℕ
+sentThen (got a pc m) f = f a pc m
+sentThen (stopped n m) f = []
+
+unfoldable pub sent : {A : Type 0} → Rule A → ℕ → Mem → List ℕ
+sent (give a) pc m = []
+sent (refuse why) pc m = []
+sent (act q k) pc m = actSent q ++ sentThen (perform q pc m) (λ v pc₁ m₁. sent (k v) pc₁ m₁)
+
+-- by a rule after what went before it
+unfoldable pub sends : {A B : Type 0} → Out A → Rule B → List ℕ
+sends o r = sentThen o (λ _ pc m. sent r pc m)
 
 -- ---- the words of which the instructions are made
 
@@ -131,6 +158,9 @@ gromByte a = peek grom a
 
 abbrev pub poke : Kind → ℕ → ℕ → Deed
 poke k a b = act (store k a b) (λ _. give tt)
+
+abbrev pub emit : ℕ → Deed
+emit b = act (send b) (λ _. give tt)
 
 -- a refusal, unless a test holds
 unfoldable pub need : Bool → Why → Deed

@@ -37,8 +37,9 @@ pub record TrueIn (k : Kind) (a : ℕ) (s₀ : State) (h : Past) (m : Mem) (n : 
   pub told : n ≡ numbersOf said
   pub is : True k a s₀ h m said
 
--- of a kind by its number: wherever the calls for C began, and wherever pc is, which is not asked
+-- of a kind by its number: wherever the calls for C began, and wherever pc and the source are, which are not asked
 abbrev pub BlamesIn : ℕ → ℕ → (At → State) → ℕ → ℕ → ℕ → ℕ → ℕ → Lent → Type 0
 BlamesIn n a lent used ring place w answer out =
-    (k : Kind) → kindNumber k ≡ n → (pc : ℕ) (s₀ : State) (l : List Said) → Good s₀ → s₀ .mem .used ≡ 0 → HostCalled ring w s₀ l (lent (stands pc used ring place w))
-    → TrueIn k a s₀ (pastOf s₀ l) (lent (stands pc used ring place w) .mem) (numbers answer (now (out .exit)))
+    (k : Kind) → kindNumber k ≡ n → (pc source : ℕ) (s₀ : State) (l : List Said) → Good s₀ → s₀ .mem .used ≡ 0
+    → HostCalled ring w s₀ l (lent (stands pc used ring place w source))
+    → TrueIn k a s₀ (pastOf s₀ l) (lent (stands pc used ring place w source) .mem) (numbers answer (now (out .exit)))

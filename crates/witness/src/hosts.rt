@@ -1,6 +1,7 @@
 // The same for a host in C: what its calls hand back meets the demands that the calls of bench meet.
 ghost use Rattle.machine.specs.Meaning.{_&_, Groups, Image, Journal, Pad, Regs, Vram};
-ghost use Rattle.witness.specs.Demanded.{Step, Back, Run};
+ghost use Rattle.rules.specs.Calls.{instruction};
+ghost use Rattle.witness.specs.Demanded.{Step, Tick, Back, Run};
 ghost use Rattle.witness.specs.Hosted.{RepliesIn, ReportsIn, Views};
 ghost use Rattle.witness.specs.Blamed.{BlamesIn};
 ghost use Rattle.culprit.specs.Meaning.{seen};
@@ -17,9 +18,10 @@ pub fn step(
     ring: u8,
     place: usize,
     writable: u8,
-    out: &mut [u64; 6],
+    source: u8,
+    out: &mut [u64; 7],
 ) -> u8
-    ensures { λ r. ⌜ RepliesIn Step (Image image & Groups writable & Pad pad & Vram vdp & Regs reg & Journal journal) pc used ring place writable r out ⌝ }
+    ensures { λ r. ⌜ RepliesIn (Step instruction) (Image image & Groups writable & Pad pad & Vram vdp & Regs reg & Journal journal) pc used ring place writable source r out ⌝ }
 {
     export::argolythe_step(
         image,
@@ -32,6 +34,45 @@ pub fn step(
         ring,
         place,
         writable,
+        source,
+        out,
+    )
+}
+
+// So does a tick, and what it sends is determined by the state before it.
+pub fn tick(
+    image: &mut [u8],
+    pad: &mut [u8],
+    vdp: &mut [u8],
+    reg: &mut [u8],
+    journal: &mut [u32],
+    pc: u16,
+    used: usize,
+    ring: u8,
+    place: usize,
+    writable: u8,
+    source: u8,
+    output: &mut [u8],
+    sent: &mut usize,
+    out: &mut [u64; 7],
+) -> u8
+    ensures { λ r. ⌜ RepliesIn (Tick (now (output .entry)) (now (output .exit)) (now (sent .exit)))
+        (Image image & Groups writable & Pad pad & Vram vdp & Regs reg & Journal journal) pc used ring place writable source r out ⌝ }
+{
+    export::ticks::argolythe_tick(
+        image,
+        pad,
+        vdp,
+        reg,
+        journal,
+        pc,
+        used,
+        ring,
+        place,
+        writable,
+        source,
+        output,
+        sent,
         out,
     )
 }
@@ -48,9 +89,10 @@ pub fn step_back(
     ring: u8,
     place: usize,
     writable: u8,
-    out: &mut [u64; 6],
+    source: u8,
+    out: &mut [u64; 7],
 ) -> u8
-    ensures { λ r. ⌜ RepliesIn Back (Image image & Groups writable & Pad pad & Vram vdp & Regs reg & Journal journal) pc used ring place writable r out ⌝ }
+    ensures { λ r. ⌜ RepliesIn Back (Image image & Groups writable & Pad pad & Vram vdp & Regs reg & Journal journal) pc used ring place writable source r out ⌝ }
 {
     export::argolythe_step_back(
         image,
@@ -63,6 +105,7 @@ pub fn step_back(
         ring,
         place,
         writable,
+        source,
         out,
     )
 }
@@ -79,10 +122,11 @@ pub fn run(
     ring: u8,
     place: usize,
     writable: u8,
+    source: u8,
     n: u32,
-    out: &mut [u64; 6],
+    out: &mut [u64; 7],
 ) -> u8
-    ensures { λ r. ⌜ ReportsIn (Run n) (Image image & Groups writable & Pad pad & Vram vdp & Regs reg & Journal journal) pc used ring place writable r out ⌝ }
+    ensures { λ r. ⌜ ReportsIn (Run n) (Image image & Groups writable & Pad pad & Vram vdp & Regs reg & Journal journal) pc used ring place writable source r out ⌝ }
 {
     export::argolythe_run(
         image,
@@ -95,6 +139,7 @@ pub fn run(
         ring,
         place,
         writable,
+        source,
         n,
         out,
     )

@@ -6,6 +6,7 @@ pub mod who;
 
 use bench::at::At;
 use bench::runs::Report;
+use bench::ticks::Ticked;
 use bench::viewer::Memory;
 use bench::walk::Reply;
 ghost use mathlib.Core.Path.{_≡_};
@@ -13,10 +14,12 @@ ghost use Prim.Native.Nat.{_-_, _<_};
 ghost use lib.Dec.{eqb};
 ghost use Rattle.rules.specs.Machine.{pick};
 ghost use Rattle.rules.specs.Calls;
+ghost use Rattle.rules.specs.Calls.{instruction};
+ghost use Rattle.rules.specs.Demands.{instructions};
 ghost use Rattle.machine.specs.Meaning.{_&_, Groups, Image, Journal, Pad, Regs, Vram};
 ghost use Rattle.bench.specs.Meaning.{memoryOf};
 ghost use Rattle.witness.specs.Demanded;
-ghost use Rattle.witness.specs.Demanded.{Meets, RepliesHome, TakenBack, BackAgain, Along, forgetting};
+ghost use Rattle.witness.specs.Demanded.{Meets, Ticks, RepliesHome, TakenBack, BackAgain, LedOn, Along, forgetting};
 
 // A step meets demand 1 or demand 2.
 pub fn step(
@@ -27,9 +30,24 @@ pub fn step(
     journal: &mut [u32],
     at: At,
 ) -> Reply
-    ensures { λ r. ⌜ Meets Demanded.Step (Image image & Groups (at .writable) & Pad pad & Vram vram & Regs regs & Journal journal) at r ⌝ }
+    ensures { λ r. ⌜ Meets (Demanded.Step instruction) (Image image & Groups (at .writable) & Pad pad & Vram vram & Regs regs & Journal journal) at r ⌝ }
 {
     bench::walk::step(image, pad, vram, regs, journal, at)
+}
+
+// So does a tick, and what it sends is determined by the state before it.
+pub fn tick(
+    image: &mut [u8],
+    pad: &mut [u8],
+    vram: &mut [u8],
+    regs: &mut [u8],
+    journal: &mut [u32],
+    at: At,
+    output: &mut [u8],
+) -> Ticked
+    ensures { λ r. ⌜ Meets (Ticks output) (Image image & Groups (at .writable) & Pad pad & Vram vram & Regs regs & Journal journal) at r ⌝ }
+{
+    bench::ticks::tick(image, pad, vram, regs, journal, at, output)
 }
 
 // A step back that is refused has its cause, and leaves all as it was.
@@ -129,7 +147,7 @@ pub fn run_and_back(
     at: At,
     n: u32,
 ) -> Kept
-    ensures { λ r. ⌜ Meets BackAgain (Image image & Groups (at .writable) & Pad pad & Vram vram & Regs regs & Journal journal) (forgetting at) r ⌝ }
+    ensures { λ r. ⌜ Meets (BackAgain instructions) (Image image & Groups (at .writable) & Pad pad & Vram vram & Regs regs & Journal journal) (forgetting at) r ⌝ }
 {
     let start = At {
         pc: at.pc,
@@ -137,13 +155,39 @@ pub fn run_and_back(
         ring: at.ring,
         place: at.place,
         writable: at.writable,
+        source: at.source,
     };
     let r = bench::runs::run(image, pad, vram, regs, journal, start, n);
     let there = r.at;
     take_back(image, pad, vram, regs, journal, there, r.steps)
 }
 
-// Any sequence of calls, from an empty journal on: 0 stands for a step back, any other n for a run of n.
+// One call more: 0 stands for a step back, 1 for a tick, and any other n for a run of n - 1.
+fn call(
+    image: &mut [u8],
+    pad: &mut [u8],
+    vram: &mut [u8],
+    regs: &mut [u8],
+    journal: &mut [u32],
+    at: At,
+    n: u32,
+    output: &mut [u8],
+) -> At
+    ensures { λ r. ⌜ LedOn (Image image & Groups (at .writable) & Pad pad & Vram vram & Regs regs & Journal journal) at r ⌝ }
+{
+    if n == 0 {
+        let b = bench::walk::step_back(image, pad, vram, regs, journal, at);
+        return b.at;
+    }
+    if n == 1 {
+        let t = bench::ticks::tick(image, pad, vram, regs, journal, at, output);
+        return t.at;
+    }
+    let r = bench::runs::run(image, pad, vram, regs, journal, at, n - 1);
+    r.at
+}
+
+// Any sequence of calls, from an empty journal on. What the ticks send goes to one output, one over the other.
 pub fn make_calls(
     image: &mut [u8],
     pad: &mut [u8],
@@ -152,6 +196,7 @@ pub fn make_calls(
     journal: &mut [u32],
     at: At,
     calls: &[u32],
+    output: &mut [u8],
 ) -> At
     ensures { λ r. ⌜ Meets Along (Image image & Groups (at .writable) & Pad pad & Vram vram & Regs regs & Journal journal) (forgetting at) r ⌝ }
 {
@@ -161,17 +206,11 @@ pub fn make_calls(
         ring: at.ring,
         place: at.place,
         writable: at.writable,
+        source: at.source,
     };
     let mut i: usize = 0;
     while i < calls.len() {
-        let n = calls[i];
-        if n == 0 {
-            let b = bench::walk::step_back(image, pad, vram, regs, journal, here);
-            here = b.at;
-        } else {
-            let r = bench::runs::run(image, pad, vram, regs, journal, here, n);
-            here = r.at;
-        }
+        here = call(image, pad, vram, regs, journal, here, calls[i], output);
         i = i + 1;
     }
     here

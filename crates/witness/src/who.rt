@@ -32,11 +32,12 @@ pub fn wrote_after(
     journal: &mut [u32],
     at: At,
     calls: &[u32],
+    output: &mut [u8],
     which: Cell,
     cell: u16,
 ) -> Wrote
     ensures { λ r. ⌜ Meets (BlamesAfter (kindOf which) cell) (Image image & Groups (at .writable) & Pad pad & Vram vram & Regs regs & Journal journal) (forgetting at) r ⌝ }
 {
-    let here = crate::make_calls(image, pad, vram, regs, journal, at, calls);
+    let here = crate::make_calls(image, pad, vram, regs, journal, at, calls, output);
     who_wrote(image, pad, vram, regs, journal, here, which, cell)
 }

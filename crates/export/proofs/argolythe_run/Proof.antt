@@ -1,6 +1,6 @@
 -- The run of `bench`, its report told in numbers.
 use Rattle.export.proofs.Chosen.{of-run}
-use Rattle.export.proofs.Numbers.{heard-report}
+use Rattle.export.proofs.Numbers.{flag-told, heard-report}
 use borrow.Author.Needs.{needs}
 use Rattle.export.proofs.argolythe_run.Statement.{statement}
 use Rattle.export.proofs.argolythe_run.Tie as tie
@@ -8,7 +8,7 @@ use Rattle.export.proofs.argolythe_run.Tie as tie
 returns : tie.Need-returns
 returns c =
     let at-run = c .before .before .before .before .before .before .before .before .before .before .before .before .before .before in
-    λ _. heard-report _ (of-run _ (at-run .run .ensures _)) (c .tell .ensures) (at-run .run .ensures _)
+    (flag-told (at-run .run .result .at .source) (c .tell .ensures), λ _. heard-report _ (of-run _ (at-run .run .ensures _)) (c .tell .ensures) (at-run .run .ensures _))
 
 pub argolythe-run-spec : {M : Type 1} → statement M
 argolythe-run-spec =

@@ -7,7 +7,7 @@ use Rattle.witness.proofs.step.Tie as tie
 returns : tie.Need-returns
 returns c =
     let at-step = c .before .before .before .before .before .before .before .before .before .before in
-    λ _. step-bears (at-step .step .ensures _)
+    λ _. step-bears _ (at-step .step .ensures _)
 
 pub step-spec : {M : Type 1} → statement M
 step-spec =

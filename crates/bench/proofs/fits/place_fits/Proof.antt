@@ -1,9 +1,7 @@
 -- Looked at in a ring alone, and not where it is 0.
-use mathlib.Core.Path.{refl}
 use borrow.Author.Tests.{ne-eqb}
 use Rattle.rules.specs.Calls.{placeFits}
 use Rattle.rules.proofs.Tests.{denied, granted}
-use borrow.Author.Needs.{needs}
 use Rattle.bench.proofs.fits.place_fits.Statement.{statement}
 use Rattle.bench.proofs.fits.place_fits.Tie as tie
 

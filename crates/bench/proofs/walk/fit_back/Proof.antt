@@ -1,4 +1,5 @@
 -- No sound record, or the newest step's words put back.
+use native.Mathlib.Omega.{arith}
 use Rattle.bench.proofs.Links.{back-lost, back-found}
 use borrow.Author.Needs.{needs}
 use Rattle.bench.proofs.walk.fit_back.Statement.{statement}
@@ -24,7 +25,7 @@ returns-2 c =
     let at-if1 = at-undo .before .before .before .before .before .before in
     let at-find = at-if1 .before in
     let at-book = at-find .before .before in
-    λ _. rw (c .rest .ensures) (back-found _ (at-book .book .ensures) (at-find .find .ensures .0) (at-if1 .if1 .left) (at-undo .undo .ensures _))
+    λ _. rw (c .rest .ensures) (back-found _ (at-book .book .ensures) (omega (arith, at-find .find .ok)) (at-find .find .ensures .0) (at-if1 .if1 .left) (at-undo .undo .ensures _))
 
 pub fit-back-spec : {M : Type 1} → statement M
 fit-back-spec =

@@ -1,7 +1,7 @@
--- No opcode; one that is stopped; or its task.
+-- No opcode; one that is stopped; its task; or the start of a list.
 use mathlib.Core.Path.{_∙_, ap, sym}
 use Rattle.opcode.specs.Meaning.{meant}
-use Rattle.bench.proofs.Steps.{from, step-beyond, step-halted, step-does}
+use Rattle.bench.proofs.Steps.{from, step-beyond, step-halted, step-does, step-starts}
 use borrow.Author.Needs.{needs}
 use Rattle.bench.proofs.walk.fit_step.Statement.{statement}
 use Rattle.bench.proofs.walk.fit_step.Tie as tie
@@ -33,7 +33,24 @@ returns-3 c =
     λ _. step-does _ (from _ (at-begin .begin .ensures) (at-next-byte .next-byte .ensures _)) (at-if1 .if1 .left)
     (ap meant (sym (at-class2 .class2 .given .1)) ∙ at-class-of .class-of .ensures) (at-do-task .do-task .ensures _)
 
+do-start-requires : tie.Need-do-start-requires
+do-start-requires c κs =
+    let start = c .before .before .before .before .before .before .before .before .before .before .before .before .before .before .before .before .before .before .before in
+    record { pad = start .pre .pad; vram = start .pre .vram; regs = start .pre .regs; used = start .pre .used }
+
+returns-4 : tie.Need-returns-4
+returns-4 c =
+    let at-do-start = c .before .before .before .before .before .before .before .before .before .before in
+    let at-class3 = at-do-start .before .before .before .before .before .before .before in
+    let at-class-of = at-class3 .before .before in
+    let at-if1 = at-class-of .before in
+    let at-next-byte = at-if1 .before .before in
+    let at-begin = at-next-byte .before in
+    λ _. step-starts _ (from _ (at-begin .begin .ensures) (at-next-byte .next-byte .ensures _)) (at-if1 .if1 .left)
+    (ap meant (sym (at-class3 .class3 .given .1)) ∙ at-class-of .class-of .ensures) (at-do-start .do-start .ensures _)
+
 pub fit-step-spec : {M : Type 1} → statement M
 fit-step-spec =
     tie.close (tie.spec (search needs) (search needs) (search needs) (search needs) returns (search needs) (search needs) (search needs)
-    (search needs) do-task-requires (search needs) returns-2 (search needs) (search needs) (search needs) (search needs) (search needs) returns-3)
+    (search needs) do-task-requires (search needs) do-start-requires (search needs) returns-2 (search needs) (search needs) (search needs) (search needs)
+    (search needs) returns-3 (search needs) (search needs) (search needs) (search needs) (search needs) returns-4)

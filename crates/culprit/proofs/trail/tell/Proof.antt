@@ -8,7 +8,7 @@ use Rattle.culprit.proofs.trail.tell.Tie as tie
 
 returns : tie.Need-returns
 returns c = (
-  λ k z e h. told-mark z k _ _ _ _ (c .before .before .kind-of .ensures) (c .before .if1 .taken) h (c .began .ensures .0),
+  λ k z e h. told-mark k _ _ _ _ (c .before .before .kind-of .ensures) (c .before .if1 .taken) (c .began .ensures .0),
   c .began .ensures .1,
 )
 

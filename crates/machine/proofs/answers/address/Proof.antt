@@ -46,8 +46,11 @@ returns-13 c = rw (c .enum-told10 .given .1)
 returns-14 : tie.Need-returns-14
 returns-14 c = rw (c .enum-told11 .given .1)
 
+returns-15 : tie.Need-returns-15
+returns-15 c = rw (c .enum-told12 .given .1)
+
 pub address-spec : {M : Type 1} → statement M
 address-spec =
-    tie.close (tie.spec (search needs) (search needs) (search needs) (search needs) (search needs) (search needs) (search needs) (search needs)
+    tie.close (tie.spec (search needs) (search needs) (search needs) (search needs) (search needs) (search needs) (search needs) (search needs) (search needs)
     (search needs) (search needs) (search needs) (search needs) (search needs) (search needs) returns returns-2 returns-3 returns-4
-    returns-5 returns-6 returns-7 returns-8 returns-9 returns-10 returns-11 returns-12 returns-13 returns-14)
+    returns-5 returns-6 returns-7 returns-8 returns-9 returns-10 returns-11 returns-12 returns-13 returns-14 returns-15)

@@ -81,5 +81,5 @@ class-of-spec =
     (λ c. both 0xE4 _ _ _ (search needs))
     (λ c. both 0xE8 _ _ _ (search needs))
     from-EE
-    (λ c. listed 0xF4 _ (search needs))
+    (λ c. both 0xF4 _ _ _ (search needs))
     (λ c. listed 0xF8 _ (search needs)))

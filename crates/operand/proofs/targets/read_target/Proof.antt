@@ -1,13 +1,16 @@
 -- The operand, its value, and then whatever goes on.
+use mathlib.Core.Path.{refl}
 use Rattle.rules.specs.Rules.{_>>=_}
 use Rattle.rules.specs.Operands.{Cell, operandOf, value}
-use Rattle.machine.proofs.Chain.{via, leaves, further}
+use Rattle.machine.proofs.Chain.{seq, bind, via, gives, leaves, further}
+use Rattle.operand.specs.Meaning.{readCell}
 use Rattle.operand.proofs.Reach.{apart}
 use borrow.Author.Needs.{needs}
 use Rattle.operand.proofs.targets.read_target.Statement.{statement}
 use Rattle.operand.proofs.targets.read_target.Tie as tie
 
 returns : tie.Need-returns
+unfolding readCell
 returns c =
     let at-place-of = c .before .before .before .before .before .before .before in
     let at-now-of = at-place-of .before in
@@ -21,6 +24,10 @@ returns c =
           (apart _ (at-operand .operand .result) (via operandOf (at-byte-count .byte-count .ensures .0) (at-operand .operand .ensures .1 _))
           (at-now-of .now-of .ensures) (at-place-of .place-of .ensures)))
           (leaves (f _) (c .before .before .before .before .value .ensures .1 _)),
+      λ _. bind _
+          (apart _ (at-operand .operand .result) (via operandOf (at-byte-count .byte-count .ensures .0) (at-operand .operand .ensures .1 _))
+          (at-now-of .now-of .ensures) (at-place-of .place-of .ensures))
+          (seq (c .before .before .before .before .value .ensures .1 _) (gives refl)),
     )
 
 pub read-target-spec : {M : Type 1} → statement M

@@ -7,7 +7,7 @@ use Rattle.witness.proofs.hosts.step.Tie as tie
 returns : tie.Need-returns
 returns c =
     let at-argolythe-step = c .before .before .before .before .before .before .before .before .before .before in
-    λ _. step-heard _ _ (at-argolythe-step .argolythe-step .ensures _)
+    λ _. step-heard _ _ (at-argolythe-step .argolythe-step .ensures .1 _)
 
 pub step-spec : {M : Type 1} → statement M
 step-spec =
