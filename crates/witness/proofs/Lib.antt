@@ -1,4 +1,5 @@
 mod Borne
 mod Counted
 mod Heard
+mod Graded
 mod Blame

@@ -1,0 +1,4 @@
+pub mod Pairs
+pub mod Worn
+pub mod Corners
+pub mod Facts
