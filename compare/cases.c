@@ -1213,6 +1213,19 @@ static void some_tick(struct dice *d, struct call *call)
     }
 }
 
+/* A map of the image's length and of zeros, mostly; and how many of the bytes that were not read are changed then. */
+static void some_map(struct dice *d, struct call *call)
+{
+    static const uint16_t shares[] = {256, 256, 128, 4};
+    size_t less = call->image_len == 0 ? 0 : call->image_len - 1;
+    const size_t lengths[] = {0, less, call->image_len + 1, CASE_GROUP_LEN, CASE_IMAGE_MAX, CASE_IMAGE_ROOM};
+
+    call->map_len = percent(d, 5) ? PICK(d, lengths) : call->image_len;
+    call->map_seed = percent(d, 15) ? roll(d) | 1 : 0;
+    call->worn_share = PICK(d, shares);
+    call->worn_seed = roll(d);
+}
+
 /* ticks: in hundredths of the calls */
 static void fill_call(struct writer *w, const struct test_case *c, struct call *call, uint32_t ticks)
 {
@@ -1220,7 +1233,7 @@ static void fill_call(struct writer *w, const struct test_case *c, struct call *
     uint32_t r = below(d, 100);
 
     lend_all(c, call);
-    call->kind = r < 45 ? CALL_STEP : r < 70 ? CALL_RUN : r < 91 ? CALL_BACK : CALL_VIEW;
+    call->kind = r < 45 ? CALL_STEP : r < 59 ? CALL_RUN : r < 70 ? CALL_MAPPED : r < 91 ? CALL_BACK : CALL_VIEW;
     call->n = some_run(d);
     some_mode(d, c, call);
     some_source(d, call);
@@ -1234,6 +1247,8 @@ static void fill_call(struct writer *w, const struct test_case *c, struct call *
         some_damage(d, call);
     if (percent(d, 2))
         spoil_length(d, call);
+    if (call->kind == CALL_MAPPED)
+        some_map(d, call);
     if (percent(d, 35)) {
         call->set_pc = true;
         call->pc = (uint16_t)(w->labels > 0 && percent(d, 90) ? w->label[below(d, (uint32_t)w->labels)]

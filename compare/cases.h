@@ -24,16 +24,22 @@ enum {
     CASE_LABELS_MAX = 32
 };
 
-enum call_kind { CALL_STEP, CALL_RUN, CALL_TICK, CALL_BACK, CALL_VIEW, CALL_WHO, CALL_KINDS };
+enum call_kind { CALL_STEP, CALL_RUN, CALL_MAPPED, CALL_TICK, CALL_BACK, CALL_VIEW, CALL_WHO, CALL_KINDS };
 
 /* One call, and what is changed on both sides before it. */
 struct call {
     enum call_kind kind;
-    uint32_t n;   /* for a run */
+    uint32_t n;   /* for a run, mapped or not */
     int memory;   /* for a view, and who wrote a cell */
     size_t at;
     size_t len;
     size_t output_len; /* for a tick */
+
+    /* for a mapped run */
+    size_t map_len;
+    uint64_t map_seed;   /* 0: a map of zeros; else of bytes made from it */
+    uint32_t worn_share; /* in 256ths: so many of the bytes that it didn't read are changed, and it is run again */
+    uint64_t worn_seed;
 
     /* the cell of a kept word so far below the top is asked for, or one beside it, unless the journal is empty */
     bool by_word;

@@ -22,6 +22,7 @@ struct side {
     const struct machine *machine;
     struct part image, pad, vdp, reg, journal;
     struct part output; /* of the newest tick */
+    struct part map;    /* of the newest mapped run */
 };
 
 struct outcome {
@@ -82,6 +83,16 @@ struct counts {
     uint64_t filled;              /* outputs, to their last byte */
     uint64_t wiped;               /* refused with bytes written before */
     uint64_t flags_back;          /* step-backs that turned the source flag */
+
+    /* of mapped runs */
+    uint64_t mapped_answers[256];
+    uint64_t odd_maps;            /* of another length than the image */
+    uint64_t full_maps;           /* lent with bytes in them; the others: */
+    uint64_t read;                /* bytes */
+    uint64_t refused_first;       /* runs whose first step was refused */
+    uint64_t refused_read;        /* bytes that those read */
+    uint64_t worn_runs, worn;     /* run again; bytes changed for that */
+    uint64_t worn_words;          /* journal words with another old byte then */
 };
 
 /* What the calls hand on to one another. */
@@ -93,9 +104,9 @@ struct at {
 };
 
 static const struct machine peer_machine = {
-    "peer", peer_step, peer_run, peer_tick, peer_step_back, peer_view, peer_who_wrote};
+    "peer", peer_step, peer_run, peer_run_mapped, peer_tick, peer_step_back, peer_view, peer_who_wrote};
 
-static const char *const kind_name[] = {"step", "run", "tick", "step-back", "view", "who-wrote"};
+static const char *const kind_name[] = {"step", "run", "mapped-run", "tick", "step-back", "view", "who-wrote"};
 
 /* ---- lent parts ---- */
 
@@ -156,6 +167,7 @@ static void side_make(struct side *s, const struct machine *machine)
     part_make(&s->reg, CASE_REG_LEN + CASE_LENT_EXTRA);
     part_make(&s->journal, CASE_JOURNAL_ROOM * sizeof(uint32_t));
     part_make(&s->output, CASE_OUTPUT_MAX);
+    part_make(&s->map, CASE_IMAGE_ROOM + CASE_LENT_EXTRA);
 }
 
 static void side_free(struct side *s)
@@ -166,6 +178,7 @@ static void side_free(struct side *s)
     free(s->reg.block);
     free(s->journal.block);
     free(s->output.block);
+    free(s->map.block);
 }
 
 static void side_start(struct side *s, const struct test_case *c)
@@ -201,6 +214,24 @@ static void fill_output(struct side *s, size_t len)
     part_fill(&s->output, bytes, len);
 }
 
+/* Numbers that only have to differ. */
+static uint8_t some_byte(uint64_t *state)
+{
+    *state = *state * 6364136223846793005u + 1442695040888963407u;
+    return (uint8_t)(*state >> 56);
+}
+
+static void fill_map(struct side *s, const struct call *call)
+{
+    static uint8_t bytes[CASE_IMAGE_ROOM + CASE_LENT_EXTRA];
+    uint64_t state = call->map_seed;
+
+    memset(bytes, 0, call->map_len);
+    for (size_t i = 0; state != 0 && i < call->map_len; i++)
+        bytes[i] = some_byte(&state);
+    part_fill(&s->map, bytes, call->map_len);
+}
+
 /* What is changed before a call, the same on both sides. */
 static void edit_side(struct side *s, const struct call *call, const struct at *at)
 {
@@ -212,6 +243,8 @@ static void edit_side(struct side *s, const struct call *call, const struct at *
     }
     if (call->kind == CALL_TICK)
         fill_output(s, call->output_len);
+    if (call->kind == CALL_MAPPED)
+        fill_map(s, call);
 }
 
 static void edit_numbers(const struct call *call, struct at *at)
@@ -284,6 +317,11 @@ static peer_wrote ask_who(const struct side *s, const struct call *call, const s
                                  lent_place(call, at->place), call->writable, cell.memory, cell.at);
 }
 
+static bool is_run(const struct call *call)
+{
+    return call->kind == CALL_RUN || call->kind == CALL_MAPPED;
+}
+
 static struct outcome make_call(struct side *s, const struct call *call, const struct at *at)
 {
     const struct machine *m = s->machine;
@@ -305,6 +343,11 @@ static struct outcome make_call(struct side *s, const struct call *call, const s
         out.report = m->run(image, call->image_len, pad, call->pad_len, vdp, call->vdp_len, reg,
                             call->reg_len, journal, call->journal_len, pc, used, call->ring, place,
                             call->writable, source, call->n);
+        break;
+    case CALL_MAPPED:
+        out.report = m->run_mapped(image, call->image_len, part_bytes(&s->map), call->map_len, pad, call->pad_len,
+                                   vdp, call->vdp_len, reg, call->reg_len, journal, call->journal_len, pc, used,
+                                   call->ring, place, call->writable, source, call->n);
         break;
     case CALL_TICK:
         out.report = m->tick(image, call->image_len, pad, call->pad_len, vdp, call->vdp_len, reg,
@@ -355,13 +398,14 @@ static bool same_part(const struct part *a, const struct part *b)
 static bool same_sides(const struct side *a, const struct side *b)
 {
     return same_part(&a->pad, &b->pad) && same_part(&a->vdp, &b->vdp) && same_part(&a->reg, &b->reg) &&
-           same_part(&a->journal, &b->journal) && same_part(&a->image, &b->image) && same_part(&a->output, &b->output);
+           same_part(&a->journal, &b->journal) && same_part(&a->image, &b->image) && same_part(&a->output, &b->output) &&
+           same_part(&a->map, &b->map);
 }
 
 static bool guarded(const struct side *s)
 {
     return part_guarded(&s->image) && part_guarded(&s->pad) && part_guarded(&s->vdp) && part_guarded(&s->reg) &&
-           part_guarded(&s->journal) && part_guarded(&s->output);
+           part_guarded(&s->journal) && part_guarded(&s->output) && part_guarded(&s->map);
 }
 
 static void print_outcome(const struct machine *m, const struct outcome *o)
@@ -401,10 +445,11 @@ static void print_journal_difference(const struct side *a, const struct side *b)
 static void print_guards(const struct side *s)
 {
     if (!guarded(s))
-        printf("# %s wrote beside a lent part:%s%s%s%s%s%s\n", s->machine->name,
+        printf("# %s wrote beside a lent part:%s%s%s%s%s%s%s\n", s->machine->name,
                part_guarded(&s->image) ? "" : " image", part_guarded(&s->pad) ? "" : " pad",
                part_guarded(&s->vdp) ? "" : " vdp", part_guarded(&s->reg) ? "" : " reg",
-               part_guarded(&s->journal) ? "" : " journal", part_guarded(&s->output) ? "" : " output");
+               part_guarded(&s->journal) ? "" : " journal", part_guarded(&s->output) ? "" : " output",
+               part_guarded(&s->map) ? "" : " map");
 }
 
 /* ---- the state before a call, as lines ---- */
@@ -449,6 +494,8 @@ static void print_call(const struct call *call)
            call->pad_len, call->vdp_len, call->reg_len, call->journal_len, call->ring, call->writable);
     if (call->kind == CALL_TICK)
         printf("# output %zu\n", call->output_len);
+    if (call->kind == CALL_MAPPED)
+        printf("# map %zu, %s\n", call->map_len, call->map_seed ? "with bytes in it" : "of zeros");
     if (call->used_beyond)
         printf("# used lent as the journal's length plus %zu\n", call->used_beyond);
     if (call->place_past)
@@ -520,7 +567,7 @@ static void print_state_before(struct side *a, const struct test_case *c, int fa
     print_bytes("vdp", 4, part_bytes(&a->vdp), a->vdp.len, a->vdp.len);
     print_bytes("reg", 2, part_bytes(&a->reg), a->reg.len, a->reg.len);
     printf("pc\t%04X\n", at.pc);
-    printf("run\t%" PRIu32 "\n", c->call[failing].kind == CALL_RUN ? c->call[failing].n : 1);
+    printf("run\t%" PRIu32 "\n", is_run(&c->call[failing]) ? c->call[failing].n : 1);
 }
 
 static void print_difference(const struct maker *m, uint64_t number, struct side *a, struct side *b,
@@ -540,10 +587,11 @@ static void print_difference(const struct maker *m, uint64_t number, struct side
     print_part_difference("vdp", &a->vdp, &b->vdp);
     print_part_difference("reg", &a->reg, &b->reg);
     print_part_difference("output", &a->output, &b->output);
+    print_part_difference("map", &a->map, &b->map);
     print_journal_difference(a, b);
     print_guards(a);
     print_guards(b);
-    if (c->call[failing].kind == CALL_RUN)
+    if (is_run(&c->call[failing]))
         print_first_step(a, b, c, failing);
     print_state_before(a, c, failing);
 }
@@ -647,6 +695,127 @@ static bool check_who(struct counts *n, struct side *w, const struct side *s, co
     }
     count_who(n, s, call, at, &walk, dropped);
     return true;
+}
+
+/* ---- unread bytes changed, nothing moves ---- */
+
+static bool is_read(const struct side *s, size_t at)
+{
+    return at < s->map.len && part_bytes(&s->map)[at] != 0;
+}
+
+/* Some of the bytes that a mapped run didn't read are changed, or all; s has its map.  How many. */
+static uint64_t wear(uint8_t *image, size_t len, const struct side *s, const struct call *call)
+{
+    uint64_t state = call->worn_seed, count = 0;
+
+    for (size_t i = 0; i < len; i++) {
+        uint8_t by = some_byte(&state);
+        if (is_read(s, i) || some_byte(&state) >= call->worn_share)
+            continue;
+        image[i] ^= by | 1;
+        count++;
+    }
+    return count;
+}
+
+/* A run over a worn image beside the mapped one. */
+struct worn {
+    const struct side *before; /* the mapped run */
+    const struct side *after;  /* it, with its map */
+    const uint8_t *image;      /* the worn one */
+    const struct side *again;  /* after the run over it */
+};
+
+/* The same at every address that was stored to, its own first byte elsewhere; where steps were dropped, and their
+   words with them, one or the other. */
+static bool same_images(const struct worn *w, const struct call *call, const peer_report *r)
+{
+    static bool stored[CASE_IMAGE_MAX];
+    const uint8_t *before = part_bytes(&w->before->image), *after = part_bytes(&w->after->image);
+    const uint8_t *again = part_bytes(&w->again->image);
+    uint64_t own = r->steps + r->stores;
+    bool lost = own > r->used;
+
+    memset(stored, 0, sizeof stored);
+    for (size_t i = lost ? 0 : r->used - (size_t)own; i < r->used; i++) {
+        uint32_t word = *kept_word(w->after, call, r->place, i);
+        if (word >> 29 == 4)
+            stored[word >> 8 & 0xFFFF] = true;
+    }
+    for (size_t at = 0; at < w->after->image.len; at++) {
+        bool same = after[at] == again[at];
+        bool own_bytes = after[at] == before[at] && again[at] == w->image[at];
+        if (stored[at] ? !same : !own_bytes && !(lost && same)) {
+            printf("# image %04zX: %02X became %02X, worn %02X became %02X\n", at, before[at], after[at], w->image[at], again[at]);
+            return false;
+        }
+    }
+    return true;
+}
+
+/* The same, but for the old byte of an unread cell in GROM, which is the image's first byte there. */
+static bool same_word(const struct worn *w, uint32_t word, uint32_t other)
+{
+    size_t at = word >> 8 & 0x1FFFFF;
+
+    if (word == other)
+        return true;
+    return word >> 8 == other >> 8 && word >> 29 == 4 && at < w->after->image.len && !is_read(w->after, at) &&
+           (uint8_t)word == part_bytes(&w->before->image)[at] && (uint8_t)other == w->image[at];
+}
+
+static bool same_journals(struct counts *n, const struct worn *w)
+{
+    const uint32_t *words = journal_words(w->after), *others = journal_words(w->again);
+
+    for (size_t i = 0; i < w->after->journal.len / sizeof(uint32_t); i++) {
+        if (!same_word(w, words[i], others[i])) {
+            printf("# journal %zu: %08" PRIX32 ", %08" PRIX32 "\n", i, words[i], others[i]);
+            return false;
+        }
+        n->worn_words += words[i] != others[i];
+    }
+    return true;
+}
+
+/* Run again by a machine, on copies, over the worn image. */
+static bool runs_alike(struct counts *n, struct side *copy, struct worn *w, const struct machine *machine,
+                       const struct call *call, const struct at *at, const peer_report *r)
+{
+    struct call run = *call;
+
+    run.kind = CALL_RUN;
+    copy->machine = machine;
+    side_copy(copy, w->before);
+    part_fill(&copy->image, w->image, w->before->image.len);
+    struct outcome o = make_call(copy, &run, at);
+    w->again = copy;
+    if (same_report(&o.report, r) && same_part(&w->after->pad, &copy->pad) && same_part(&w->after->vdp, &copy->vdp) &&
+        same_part(&w->after->reg, &copy->reg) && same_images(w, call, r) && same_journals(n, w) && guarded(copy))
+        return true;
+    printf("# with unread bytes changed the run is another:\n");
+    print_outcome(machine, &o);
+    print_part_difference("pad", &w->after->pad, &copy->pad);
+    print_part_difference("vdp", &w->after->vdp, &copy->vdp);
+    print_part_difference("reg", &w->after->reg, &copy->reg);
+    print_guards(copy);
+    return false;
+}
+
+/* 02, item 13, of both machines, after a mapped run that began with a map of zeros. */
+static bool check_worn(struct counts *n, struct side *copy, const struct side *before, const struct side *a,
+                       const struct side *b, const struct call *call, const struct at *at, const peer_report *r)
+{
+    static uint8_t image[CASE_IMAGE_MAX];
+    struct worn w = {before, a, image, NULL};
+
+    if (call->map_seed != 0 || r->answer == 11)
+        return true;
+    memcpy(image, part_bytes(&before->image), before->image.len);
+    n->worn += wear(image, before->image.len, a, call);
+    n->worn_runs += 1;
+    return runs_alike(n, copy, &w, a->machine, call, at, r) && runs_alike(n, copy, &w, b->machine, call, at, r);
 }
 
 /* ---- counting ---- */
@@ -756,6 +925,25 @@ static void count_tick(struct counts *n, const struct side *s, const struct call
     n->filled += o->sent != 0 && o->sent == call->output_len;
 }
 
+/* Of a map of zeros: what was read, and of that what a refused step read, if that was the first. */
+static void count_mapped(struct counts *n, const struct side *s, const struct call *call, const struct outcome *o)
+{
+    uint64_t read = 0;
+
+    n->mapped_answers[o->report.answer]++;
+    n->odd_maps += call->map_len != call->image_len;
+    n->full_maps += call->map_seed != 0;
+    if (call->map_seed != 0)
+        return;
+    for (size_t i = 0; i < s->map.len; i++)
+        read += is_read(s, i);
+    n->read += read;
+    if (is_refusal_of_step(o->report.answer) && o->report.steps == 0) {
+        n->refused_first++;
+        n->refused_read += read;
+    }
+}
+
 /* at: as it was lent.  dropped: how many words this case's calls dropped before */
 static void count_call(struct counts *n, const struct side *s, const struct test_case *c,
                        const struct call *call, const struct outcome *o, const struct at *at, uint64_t *dropped)
@@ -773,6 +961,8 @@ static void count_call(struct counts *n, const struct side *s, const struct test
         count_ring(n, call, &o->report, at->used, dropped);
     if (call->kind == CALL_TICK)
         count_tick(n, s, call, o, at->source);
+    if (call->kind == CALL_MAPPED)
+        count_mapped(n, s, call, o);
     if (call->kind == CALL_BACK)
         n->flags_back += o->report.source != at->source;
     if (call->kind == CALL_TICK || call->kind == CALL_BACK)
@@ -842,12 +1032,24 @@ static void print_tick_counts(const struct counts *n)
            n->bytes, n->list_wraps, n->filled, n->wiped, n->flags_back);
 }
 
+static void print_map_counts(const struct counts *n)
+{
+    printf("\nmapped runs: %" PRIu64 ", answers", n->calls_of_kind[CALL_MAPPED]);
+    for (int i = 0; i < 256; i++)
+        if (n->mapped_answers[i])
+            printf(" %d:%" PRIu64, i, n->mapped_answers[i]);
+    printf("; %" PRIu64 " maps of another length, %" PRIu64 " with bytes in them\n", n->odd_maps, n->full_maps);
+    printf("mapped runs: %" PRIu64 " bytes read, %" PRIu64 " of them by %" PRIu64 " first steps that were refused; %" PRIu64
+           " run again by both with %" PRIu64 " unread bytes changed, %" PRIu64 " journal words then had another old byte",
+           n->read, n->refused_read, n->refused_first, n->worn_runs, n->worn, n->worn_words);
+}
+
 static void print_counts(const struct counts *n)
 {
     int never = 0, wrong = 0;
-    printf("cases %" PRIu64 ", calls %" PRIu64 " (step %" PRIu64 ", run %" PRIu64 ", tick %" PRIu64 ", step-back %" PRIu64
+    printf("cases %" PRIu64 ", calls %" PRIu64 " (step %" PRIu64 ", run %" PRIu64 ", mapped run %" PRIu64 ", tick %" PRIu64 ", step-back %" PRIu64
            ", view %" PRIu64 ": %" PRIu64 " shown, %" PRIu64 " empty, who wrote a cell %" PRIu64 ")\n",
-           n->cases, n->calls, n->calls_of_kind[CALL_STEP], n->calls_of_kind[CALL_RUN], n->calls_of_kind[CALL_TICK],
+           n->cases, n->calls, n->calls_of_kind[CALL_STEP], n->calls_of_kind[CALL_RUN], n->calls_of_kind[CALL_MAPPED], n->calls_of_kind[CALL_TICK],
            n->calls_of_kind[CALL_BACK], n->calls_of_kind[CALL_VIEW], n->shown_views, n->empty_views,
            n->calls_of_kind[CALL_WHO]);
     printf("steps tried %" PRIu64 ", accepted %" PRIu64 " (%.1f%%); single steps accepted %.1f%%\n", n->tries,
@@ -873,14 +1075,15 @@ static void print_counts(const struct counts *n)
     print_ring_counts(n);
     print_who_counts(n);
     print_tick_counts(n);
+    print_map_counts(n);
     printf("\nopcodes never accepted: %d\nopcodes accepted that must not be: %d\n", never, wrong);
 }
 
 /* ---- the comparison ---- */
 
-/* w: a side to walk back on */
+/* w: a side to walk back on, and to run again on; before: one for what a mapped run is lent */
 static bool compare_case(const struct maker *m, uint64_t number, struct side *a, struct side *b, struct side *w,
-                         const struct test_case *c, struct counts *n)
+                         struct side *before, const struct test_case *c, struct counts *n)
 {
     struct at at = {c->pc, c->used, c->place, c->source};
     uint64_t dropped = 0;
@@ -892,10 +1095,13 @@ static bool compare_case(const struct maker *m, uint64_t number, struct side *a,
         edit_numbers(call, &at);
         edit_side(a, call, &at);
         edit_side(b, call, &at);
+        if (call->kind == CALL_MAPPED)
+            side_copy(before, a);
         struct outcome x = make_call(a, call, &at);
         struct outcome y = make_call(b, call, &at);
         if (!same_outcome(&x, &y) || !same_sides(a, b) || !guarded(a) || !guarded(b) ||
-            (call->kind == CALL_WHO && !check_who(n, w, a, call, &at, &x, dropped))) {
+            (call->kind == CALL_WHO && !check_who(n, w, a, call, &at, &x, dropped)) ||
+            (call->kind == CALL_MAPPED && !check_worn(n, w, before, a, b, call, &at, &x.report))) {
             print_difference(m, number, a, b, c, i, &x, &y);
             return false;
         }
@@ -911,7 +1117,7 @@ int main(int argc, char **argv)
     static struct maker maker;
     static struct test_case c;
     static struct counts counts;
-    struct side a, b, walker;
+    struct side a, b, walker, before;
     uint64_t cases = argc > 1 ? strtoull(argv[1], NULL, 0) : 100000;
     uint64_t seed = argc > 2 ? strtoull(argv[2], NULL, 0) : 1;
     uint64_t first = argc > 3 ? strtoull(argv[3], NULL, 0) : 0;
@@ -919,16 +1125,18 @@ int main(int argc, char **argv)
     side_make(&a, &peer_machine);
     side_make(&b, &other_machine);
     side_make(&walker, &peer_machine);
+    side_make(&before, &peer_machine);
     maker_start(&maker, seed);
     bool same = true;
     for (uint64_t i = first; same && i - first < cases; i++) {
         maker_make(&maker, i, &c);
-        same = compare_case(&maker, i, &a, &b, &walker, &c, &counts);
+        same = compare_case(&maker, i, &a, &b, &walker, &before, &c, &counts);
     }
     if (same)
         print_counts(&counts);
     side_free(&a);
     side_free(&b);
     side_free(&walker);
+    side_free(&before);
     return same ? 0 : 1;
 }

@@ -1,4 +1,4 @@
-/* A machine under comparison: the six calls of peer.h as function pointers. */
+/* A machine under comparison: the seven calls of peer.h as function pointers. */
 #ifndef MACHINE_H
 #define MACHINE_H
 
@@ -15,6 +15,11 @@ struct machine {
                        uint32_t *journal, size_t journal_len,
                        uint16_t pc, size_t used, uint8_t ring, size_t place, uint8_t writable, uint8_t source,
                        uint32_t n);
+    peer_report (*run_mapped)(uint8_t *image, size_t image_len, uint8_t *map, size_t map_len,
+                              uint8_t *pad, size_t pad_len, uint8_t *vdp, size_t vdp_len, uint8_t *reg, size_t reg_len,
+                              uint32_t *journal, size_t journal_len,
+                              uint16_t pc, size_t used, uint8_t ring, size_t place, uint8_t writable, uint8_t source,
+                              uint32_t n);
     peer_report (*tick)(uint8_t *image, size_t image_len, uint8_t *pad, size_t pad_len,
                         uint8_t *vdp, size_t vdp_len, uint8_t *reg, size_t reg_len,
                         uint32_t *journal, size_t journal_len,

@@ -46,6 +46,20 @@ static peer_report run(uint8_t *image, size_t image_len, uint8_t *pad, size_t pa
     return report_of(answer, out);
 }
 
+/* A mapped run, as the harness asks for it. */
+static peer_report run_mapped(uint8_t *image, size_t image_len, uint8_t *map, size_t map_len,
+                              uint8_t *pad, size_t pad_len, uint8_t *vdp, size_t vdp_len, uint8_t *reg, size_t reg_len,
+                              uint32_t *journal, size_t journal_len,
+                              uint16_t pc, size_t used, uint8_t ring, size_t place, uint8_t writable, uint8_t source,
+                              uint32_t n)
+{
+    uint64_t out[ARGOLYTHE_OUTS];
+    spoil(out, ARGOLYTHE_OUTS);
+    uint8_t answer = argolythe_run_mapped(image, image_len, map, map_len, pad, pad_len, vdp, vdp_len, reg, reg_len,
+                                          journal, journal_len, pc, used, ring, place, writable, source, n, out);
+    return report_of(answer, out);
+}
+
 /* A tick, as the harness asks for it. */
 static peer_report tick(uint8_t *image, size_t image_len, uint8_t *pad, size_t pad_len,
                         uint8_t *vdp, size_t vdp_len, uint8_t *reg, size_t reg_len,
@@ -98,4 +112,4 @@ static peer_wrote who_wrote(const uint8_t *image, size_t image_len, const uint8_
                         out[ARGOLYTHE_WHO_BEFORE], out[ARGOLYTHE_WHO_LEFT]};
 }
 
-const struct machine other_machine = {"argolythe", step, run, tick, step_back, view, who_wrote};
+const struct machine other_machine = {"argolythe", step, run, run_mapped, tick, step_back, view, who_wrote};

@@ -92,6 +92,7 @@ struct bench {
     uint8_t writable;
     uint8_t why;    /* set when a helper returns false */
     uint16_t where; /* set with it */
+    uint8_t *map;   /* 1 for each image byte that is read; NULL where nobody asks */
 };
 
 /* 02, item 2: "It is 0 for every other answer" */
@@ -130,6 +131,14 @@ static inline uint32_t first_out(uint32_t at, uint32_t last)
 
 /* ---- reading GROM ---- */
 
+/* 02, item 13: "every address the rules read during the run".  They read the image by this alone. */
+static inline uint8_t image_byte(struct bench *b, uint32_t at)
+{
+    if (__builtin_expect(b->map != NULL, 0)) /* so that a run without one is as quick as before */
+        b->map[at] = 1;
+    return b->image[at];
+}
+
 /* "Reading GROM at pc moves pc on: the low 13 bits count and wrap, the top 3 stay." */
 static inline uint16_t after(uint16_t pc)
 {
@@ -139,7 +148,7 @@ static inline uint16_t after(uint16_t pc)
 /* Only used where the group of pc is known to be in the image. */
 static inline uint32_t next_byte(struct bench *b)
 {
-    uint8_t byte = b->image[b->pc];
+    uint8_t byte = image_byte(b, b->pc);
     b->pc = after(b->pc);
     return byte;
 }
@@ -255,7 +264,7 @@ static inline bool store_grom(struct bench *b, uint32_t at, uint32_t byte)
         return refuse_at(b, BAD_GROM, at);
     if (!may_write(b->writable, at))
         return refuse(b, READ_ONLY);
-    if (!keep(b, KIND_GROM, at, b->image[at]))
+    if (!keep(b, KIND_GROM, at, b->image[at])) /* kept, but not read: no rule sees it */
         return false;
     b->image[at] = (uint8_t)byte;
     return true;
@@ -515,7 +524,7 @@ static inline uint32_t read_byte(struct bench *b, enum space space, uint32_t at)
         return at > VDP_LAST ? refuse_value_at(b, BAD_VDP, at) : b->vdp[at];
     default: /* "GROM source addresses count in 16 bits."  "GROM address beyond the image" */
         at &= 0xFFFF;
-        return at >= b->image_len ? refuse_value_at(b, BAD_GROM, at) : b->image[at];
+        return at >= b->image_len ? refuse_value_at(b, BAD_GROM, at) : image_byte(b, at);
     }
 }
 
@@ -1299,7 +1308,7 @@ static inline bool attempt(struct bench *b)
 
     if (pc >= b->image_len)
         return refuse_at(b, BAD_GROM, pc);
-    uint32_t op = b->image[pc];
+    uint32_t op = image_byte(b, pc);
     uint8_t answer = opcode_answer(op);
     if (answer != DONE)
         return refuse(b, answer);
@@ -1365,7 +1374,7 @@ static bool bad_lengths(size_t image_len, size_t pad_len, size_t vdp_len, size_t
            journal_len > JOURNAL_MAX || used > journal_len;
 }
 
-/* The machine that a call is lent, with nothing refused. */
+/* The machine that a call is lent, with nothing refused and no map. */
 static struct bench lent(uint8_t *image, size_t image_len, uint8_t *pad, uint8_t *vdp, uint8_t *reg,
                          uint32_t *journal, size_t journal_len,
                          uint16_t pc, size_t used, uint8_t ring, size_t place, uint8_t writable, uint8_t source)
@@ -1386,7 +1395,19 @@ static struct bench lent(uint8_t *image, size_t image_len, uint8_t *pad, uint8_t
         .writable = writable,
         .why = DONE,
         .where = 0,
+        .map = NULL,
     };
+}
+
+/* "A run makes up to n steps, stops at the first answer other than 0"; place: as it was lent */
+static inline peer_report run(struct bench *b, size_t place, uint32_t n)
+{
+    uint32_t steps = 0;
+    uint64_t stores = 0;
+
+    for (; steps < n && step(b); steps++)
+        stores += b->used - b->older - 1; /* each step done took one mark; every other word is a store */
+    return (peer_report){b->why, b->pc, b->used, steps, stores, b->where, b->ring ? b->place : place, b->source != 0};
 }
 
 peer_report peer_run(uint8_t *image, size_t image_len,
@@ -1402,13 +1423,25 @@ peer_report peer_run(uint8_t *image, size_t image_len,
         return (peer_report){BAD_LENGTH, pc, used, 0, 0, 0, place, source != 0};
 
     struct bench b = lent(image, image_len, pad, vdp, reg, journal, journal_len, pc, used, ring, place, writable, source);
-    uint32_t steps = 0;
-    uint64_t stores = 0;
+    return run(&b, place, n);
+}
 
-    /* "A run makes up to n steps, stops at the first answer other than 0" */
-    for (; steps < n && step(&b); steps++)
-        stores += b.used - b.older - 1; /* each step done took one mark; every other word is a store */
-    return (peer_report){b.why, b.pc, b.used, steps, stores, b.where, ring ? b.place : place, b.source != 0};
+peer_report peer_run_mapped(uint8_t *image, size_t image_len,
+                            uint8_t *map, size_t map_len,
+                            uint8_t *pad, size_t pad_len,
+                            uint8_t *vdp, size_t vdp_len,
+                            uint8_t *reg, size_t reg_len,
+                            uint32_t *journal, size_t journal_len,
+                            uint16_t pc, size_t used, uint8_t ring, size_t place, uint8_t writable, uint8_t source,
+                            uint32_t n)
+{
+    if (bad_lengths(image_len, pad_len, vdp_len, reg_len, journal_len, used) || bad_place(journal_len, ring, place) ||
+        map_len != image_len)
+        return (peer_report){BAD_LENGTH, pc, used, 0, 0, 0, place, source != 0};
+
+    struct bench b = lent(image, image_len, pad, vdp, reg, journal, journal_len, pc, used, ring, place, writable, source);
+    b.map = map;
+    return run(&b, place, n);
 }
 
 peer_report peer_step(uint8_t *image, size_t image_len,

@@ -41,6 +41,18 @@ peer_report peer_run(uint8_t *image, size_t image_len,
                      uint16_t pc, size_t used, uint8_t ring, size_t place, uint8_t writable, uint8_t source,
                      uint32_t n);
 
+/* The same run, and which bytes of the image its rules read (02, item 13): each
+   gets 1 in map, the others there stay as they are.  11 also if map hasn't one
+   byte for each of the image. */
+peer_report peer_run_mapped(uint8_t *image, size_t image_len,
+                            uint8_t *map, size_t map_len,
+                            uint8_t *pad, size_t pad_len,
+                            uint8_t *vdp, size_t vdp_len,
+                            uint8_t *reg, size_t reg_len,
+                            uint32_t *journal, size_t journal_len,
+                            uint16_t pc, size_t used, uint8_t ring, size_t place, uint8_t writable, uint8_t source,
+                            uint32_t n);
+
 /* One tick of the sound list (02, item 10).  Its bytes go to output from the
    first on, *sent of them; the others stay as they are.  A refused tick
    leaves 0 in those that it had written, and *sent is 0. */

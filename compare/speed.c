@@ -25,9 +25,9 @@ enum {
 
 #define SLICE_NS (300e6 / SLICES)
 
-/* What is timed of a repeat: one run of n steps; one in a ring; n single steps; one run that is refused and put back;
-   n step-backs; n ticks of the sound list at GROM 0. */
-enum kind { RUN, RING, STEPS, REFUSED, BACKS, TICKS };
+/* What is timed of a repeat: one run of n steps; one with its map; one in a ring; n single steps; one run that is refused
+   and put back; n step-backs; n ticks of the sound list at GROM 0. */
+enum kind { RUN, MAPPED, RING, STEPS, REFUSED, BACKS, TICKS };
 
 struct work {
     const char *name;
@@ -47,6 +47,10 @@ static const struct work works[] = {
      "C14E50" "050000"},
     /* the same and MUL, DIV, over VDP RAM, indexed and indirect operands */
     {"arithmetic, mixed", RUN, 100000, 0,
+     "A0C0401041" "A1A10044" "A5B020A102" "B290307F" "B9E1001244" "A85041" "A952A100" "AE50C8" "AF52FFF0" "DE4101"
+     "E3AF10000003" "E6B02202" "EB440005" "C441A100" "CD44B020" "D64155" "D94444" "8FA100" "83F01E10" "929031"
+     "050000"},
+    {"the same, with a map", MAPPED, 100000, 0,
      "A0C0401041" "A1A10044" "A5B020A102" "B290307F" "B9E1001244" "A85041" "A952A100" "AE50C8" "AF52FFF0" "DE4101"
      "E3AF10000003" "E6B02202" "EB440005" "C441A100" "CD44B020" "D64155" "D94444" "8FA100" "83F01E10" "929031"
      "050000"},
@@ -110,6 +114,7 @@ static const struct work works[] = {
 /* What a side is lent, and where it stands. */
 struct side {
     uint8_t image[IMAGE_LEN];
+    uint8_t map[IMAGE_LEN];
     uint8_t pad[PAD_LEN];
     uint8_t vdp[VDP_LEN];
     uint8_t reg[REG_LEN];
@@ -152,6 +157,7 @@ static void set_word(struct side *s, unsigned at, unsigned word)
 static void prepare(struct side *s, const char *code)
 {
     make_image(s->image, code);
+    memset(s->map, 0, IMAGE_LEN);
     for (unsigned i = 0; i < PAD_LEN; i++)
         s->pad[i] = (uint8_t)(i * 37 + 11);
     for (unsigned i = 0; i < VDP_LEN; i++)
@@ -232,6 +238,28 @@ static size_t our_runs(const struct work *w, struct side *s, struct tally *t)
     s->source = (uint8_t)out[ARGOLYTHE_OUT_SOURCE];
     count_out(t, answer, out);
     return (size_t)out[ARGOLYTHE_OUT_USED];
+}
+
+/* One mapped run of the peer's, likewise. */
+static void peer_mapped(const struct work *w, struct side *s, struct tally *t)
+{
+    peer_report r = peer_run_mapped(s->image, IMAGE_LEN, s->map, IMAGE_LEN, s->pad, PAD_LEN, s->vdp, VDP_LEN,
+                                    s->reg, REG_LEN, s->journal, JOURNAL_LEN, s->pc, 0, 0, 0, WRITABLE, s->source, w->n);
+    s->pc = r.pc;
+    s->source = r.source;
+    count(t, r.answer, r.pc, r.used, r.steps, r.stores, r.address, r.place, r.source);
+}
+
+/* One of the archive's, likewise. */
+static void our_mapped(const struct work *w, struct side *s, struct tally *t)
+{
+    uint64_t out[ARGOLYTHE_OUTS];
+    uint8_t answer = argolythe_run_mapped(s->image, IMAGE_LEN, s->map, IMAGE_LEN, s->pad, PAD_LEN, s->vdp, VDP_LEN,
+                                          s->reg, REG_LEN, s->journal, JOURNAL_LEN, s->pc, 0, 0, 0, WRITABLE, s->source,
+                                          w->n, out);
+    s->pc = (uint16_t)out[ARGOLYTHE_OUT_PC];
+    s->source = (uint8_t)out[ARGOLYTHE_OUT_SOURCE];
+    count_out(t, answer, out);
 }
 
 /* n calls for one step each. */
@@ -338,6 +366,9 @@ static void repeat(const struct work *w, struct side *s, bool ours, struct tally
     case REFUSED:
         used = ours ? our_runs(w, s, t) : peer_runs(w, s, t);
         break;
+    case MAPPED:
+        ours ? our_mapped(w, s, t) : peer_mapped(w, s, t);
+        break;
     case STEPS:
         ours ? our_steps(s, w->n, t) : peer_steps(s, w->n, t);
         break;
@@ -373,7 +404,8 @@ static void slice(const struct work *w, struct side *s, bool ours, uint64_t repe
 static bool same(const struct side *a, const struct tally *x, const struct side *b, const struct tally *y)
 {
     return x->steps == y->steps && x->stores == y->stores && x->sum == y->sum && a->pc == b->pc && a->source == b->source &&
-           memcmp(a->image, b->image, IMAGE_LEN) == 0 && memcmp(a->pad, b->pad, PAD_LEN) == 0 && memcmp(a->vdp, b->vdp, VDP_LEN) == 0 &&
+           memcmp(a->image, b->image, IMAGE_LEN) == 0 && memcmp(a->map, b->map, IMAGE_LEN) == 0 &&
+           memcmp(a->pad, b->pad, PAD_LEN) == 0 && memcmp(a->vdp, b->vdp, VDP_LEN) == 0 &&
            memcmp(a->reg, b->reg, REG_LEN) == 0 &&
            memcmp(a->journal, b->journal, JOURNAL_LEN * sizeof(uint32_t)) == 0;
 }

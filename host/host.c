@@ -1,6 +1,7 @@
 /* Runs four instructions to their end, looks at what they left, and walks back to the start; then a card
  * that writes itself, a loop that goes round a small journal, a sound list played tick by tick, the image
- * written as a dump, and a cartridge that leaves a wrong byte, with the step that wrote it. */
+ * written as a dump, and a cartridge that leaves a wrong byte, with the step that wrote it, and with the
+ * bytes that a run of it reads. */
 #include "argolythe.h"
 #include <stdio.h>
 #include <string.h>
@@ -71,6 +72,15 @@ static uint8_t run(uint32_t n, uint64_t *out)
     uint8_t answer = argolythe_run(image, sizeof image, pad, sizeof pad, vdp, sizeof vdp,
                                    reg, sizeof reg, journal, journal_len, pc, used, ring, place,
                                    writable, source, n, out);
+    keep(out);
+    return answer;
+}
+
+static uint8_t run_mapped(uint8_t *map, size_t map_len, uint32_t n, uint64_t *out)
+{
+    uint8_t answer = argolythe_run_mapped(image, sizeof image, map, map_len, pad, sizeof pad, vdp, sizeof vdp,
+                                          reg, sizeof reg, journal, journal_len, pc, used, ring, place,
+                                          writable, source, n, out);
     keep(out);
     return answer;
 }
@@ -343,6 +353,31 @@ static void before_the_culprit(void)
            "the state before the CLR");
 }
 
+/* The same cartridge: which of its bytes a run reads, and that another may be any. */
+static void a_worn_byte(void)
+{
+    static uint8_t map[ARGOLYTHE_GROUP], before[ARGOLYTHE_PAD];
+    uint64_t out[ARGOLYTHE_OUTS], again[ARGOLYTHE_OUTS];
+    int read = 0;
+    insert_overrun();
+    expect(run_mapped(map, sizeof map - 1, 100, out) == ARGOLYTHE_WRONG_LENGTH && pc == 0, "a map is as long as the image");
+    uint8_t answer = run_mapped(map, sizeof map, 100, out);
+    for (size_t i = 0; i < sizeof map; i += 1)
+        read += map[i];
+    printf("A run of it with a map answers %d: of the image's %d bytes it read %d.\n", answer, (int)sizeof map, read);
+    expect(answer == ARGOLYTHE_ENDED && out[ARGOLYTHE_OUT_STEPS] == 39, "39 steps to EXIT again");
+    expect(read == (int)sizeof overrun && map[0x13] == 1 && map[0x14] == 0, "all of the cartridge, up to EXIT");
+
+    memcpy(before, pad, sizeof pad);
+    insert_overrun();
+    image[0x14] = 0xA5; /* not read, so it may be any */
+    answer = run(100, again);
+    printf("With another byte at >0014, which it did not read, a run answers %d: pc is %04X, and the pad is the same.\n",
+           answer, pc);
+    expect(answer == ARGOLYTHE_ENDED && memcmp(again, out, sizeof out) == 0 && memcmp(pad, before, sizeof pad) == 0,
+           "nothing moved");
+}
+
 int main(void)
 {
     to_the_end();
@@ -356,6 +391,7 @@ int main(void)
     dump_and_back();
     a_wrong_byte();
     before_the_culprit();
+    a_worn_byte();
     printf(wrong ? "Something was not as expected.\n" : "All as expected.\n");
     return wrong ? 1 : 0;
 }

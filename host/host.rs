@@ -1,4 +1,5 @@
-// The same library from Rust: a slice is a pointer and a length. Two steps, the second of which writes the card, who wrote there, and two back; then a tick of a sound list.
+// The same library from Rust: a slice is a pointer and a length. Two steps, the second of which writes the card, who wrote there, and two back; then a
+// tick of a sound list, and the two steps as a run with a map of what it reads.
 extern "C" {
     #[rustfmt::skip]
     fn argolythe_step(
@@ -6,6 +7,13 @@ extern "C" {
         vdp: *mut u8, vdp_len: usize, reg: *mut u8, reg_len: usize,
         journal: *mut u32, journal_len: usize, pc: u16, used: usize,
         ring: u8, place: usize, writable: u8, source: u8, out: *mut u64,
+    ) -> u8;
+    #[rustfmt::skip]
+    fn argolythe_run_mapped(
+        image: *mut u8, image_len: usize, map: *mut u8, map_len: usize, pad: *mut u8, pad_len: usize,
+        vdp: *mut u8, vdp_len: usize, reg: *mut u8, reg_len: usize,
+        journal: *mut u32, journal_len: usize, pc: u16, used: usize,
+        ring: u8, place: usize, writable: u8, source: u8, n: u32, out: *mut u64,
     ) -> u8;
     #[rustfmt::skip]
     fn argolythe_tick(
@@ -64,6 +72,23 @@ impl Machine {
                 self.vdp.as_mut_ptr(), self.vdp.len(), self.reg.as_mut_ptr(), self.reg.len(),
                 self.journal.as_mut_ptr(), self.journal.len(), self.pc, self.used,
                 self.ring, self.place, self.writable, self.source, out.as_mut_ptr(),
+            )
+        };
+        self.keep(out);
+        answer
+    }
+
+    // Up to n steps; each byte of the image that they read gets 1 in the map.
+    fn run_mapped(&mut self, map: &mut [u8], n: u32) -> u8 {
+        let mut out = [0; 7];
+        // As above; the map is borrowed apart from the machine.
+        #[rustfmt::skip]
+        let answer = unsafe {
+            argolythe_run_mapped(
+                self.image.as_mut_ptr(), self.image.len(), map.as_mut_ptr(), map.len(), self.pad.as_mut_ptr(), self.pad.len(),
+                self.vdp.as_mut_ptr(), self.vdp.len(), self.reg.as_mut_ptr(), self.reg.len(),
+                self.journal.as_mut_ptr(), self.journal.len(), self.pc, self.used,
+                self.ring, self.place, self.writable, self.source, n, out.as_mut_ptr(),
             )
         };
         self.keep(out);
@@ -164,4 +189,15 @@ fn main() {
     let unticked = m.step_back();
     println!("A step back answers {unticked}: the list stands at {:02X}{:02X} again.", m.pad[0xCC], m.pad[0xCD]);
     assert!(unticked == 0 && m.pad[0xCC..0xCF] == [4, 0, 1] && m.source == 1 && m.used == 0);
+    let mut map = vec![0; m.image.len()];
+    let ran = m.run_mapped(&mut map, 2);
+    let read = map.iter().filter(|&&byte| byte == 1).count();
+    println!("A run of 2 with a map answers {ran}: it read {read} bytes, and not GROM >0080, where it stored {:02X}.", m.image[0x80]);
+    assert!(ran == 0 && read == 9 && map[..9] == [1; 9] && m.image[0x80] == 0x2A && m.used == 8);
+    let (pc, pad) = (m.pc, m.pad);
+    assert!(m.step_back() == 0 && m.step_back() == 0 && m.pc == 0);
+    m.image[0x80] = 0x77; // not read, so it may be any
+    let again = m.run_mapped(&mut map, 2);
+    println!("With another byte there it answers {again}: pc is {:04X}, and GROM >0080 holds {:02X} again.", m.pc, m.image[0x80]);
+    assert!(again == 0 && m.pc == pc && m.pad == pad && m.used == 8 && m.image[0x80] == 0x2A);
 }

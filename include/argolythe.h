@@ -1,10 +1,10 @@
-/* Argolythe for C11 and C++: steps, runs, ticks, steps back, the viewer, who wrote a cell, and dumps.
+/* Argolythe for C11 and C++: steps, runs, mapped runs, ticks, steps back, the viewer, who wrote a cell, and dumps.
  *
  * Link `libexport.a`, which `rt staticlib export` writes to target/staticlib/, for x86-64 Linux.
  *
  * What the library promises is proved: each call ends, touches nothing beyond what it is lent, and
- * leaves what the rules give (crates/export/src/lib.rt has the contracts, crates/export/specs/
- * how the numbers here are read). What a caller owes is checked by nothing:
+ * leaves what the rules give (crates/export/src/ has the contracts, crates/export/specs/ how the numbers
+ * here are read). What a caller owes is checked by nothing:
  *
  * - Each pointer is valid for as many elements as its length says, which are initialised, and is
  *   aligned for its type. That holds for the call alone: nothing is kept when it returns.
@@ -24,7 +24,7 @@
  *
  * A call needs less than 4 KiB of stack, whatever it is lent and however many steps it makes. The
  * compiled functions do not call themselves, none has a frame of variable size, and the deepest
- * chain of calls, argolythe_step's, takes at most 3,240 bytes: every push and every subtraction from
+ * chain of calls, argolythe_step's, takes at most 3,784 bytes: every push and every subtraction from
  * the stack pointer in its functions, and the return addresses. The 128 bytes below the stack
  * pointer that x86-64 leaves to a function come on top. This is read off the archive, not proved.
  *
@@ -140,6 +140,25 @@ uint8_t argolythe_run(uint8_t *image, size_t image_len,
                       uint32_t *journal, size_t journal_len,
                       uint16_t pc, size_t used, uint8_t ring, size_t place, uint8_t writable, uint8_t source,
                       uint32_t n, uint64_t out[ARGOLYTHE_OUTS]);
+
+/* The same run, with a map of what it read: argolythe_run in all that it answers and leaves, and each byte
+ * of the image that the rules read gets 1 in map, which has one byte for each of the image. The others stay
+ * as they are: so a map of zeros says what was read, and one that is lent again gathers several runs. A map
+ * of another length than the image's is answered 11.
+ *
+ * Read are opcodes, operands, immediates and format strings, the second byte of a branch also where it is
+ * not taken, FETCH's byte, a MOVE's source in GROM, and COINC's table; of a refused step too, up to its
+ * refusal, and so of the one that ends the run. A store into GROM reads nothing, and beyond the image there
+ * is nothing to read. What was not read doesn't matter: with other bytes there the run answers the same and
+ * leaves the same, but for those bytes themselves, and for them as old bytes in the journal. */
+uint8_t argolythe_run_mapped(uint8_t *image, size_t image_len,
+                             uint8_t *map, size_t map_len,
+                             uint8_t *pad, size_t pad_len,
+                             uint8_t *vdp, size_t vdp_len,
+                             uint8_t *reg, size_t reg_len,
+                             uint32_t *journal, size_t journal_len,
+                             uint16_t pc, size_t used, uint8_t ring, size_t place, uint8_t writable, uint8_t source,
+                             uint32_t n, uint64_t out[ARGOLYTHE_OUTS]);
 
 /* One tick of the sound list, which a console makes sixty times a second; no run makes any. The pad's >CE
  * counts down, and when it comes to 0 the block at >CC's address is due: its bytes are sent, and its last

@@ -11,7 +11,7 @@ use operand::status;
 use operand::targets::read_target;
 use operand::values;
 ghost use Rattle.rules.specs.Instructions.{storeEffect, oneRule, twoRule, exRule};
-ghost use Rattle.machine.specs.Meaning.{_&_, Does, Image, IsPad, IsVram, Journal, Pad, Vram};
+ghost use Rattle.machine.specs.Meaning.{_&_, Does, Image, IsPad, IsVram, Journal, Map, Pad, Vram};
 ghost use Rattle.operand.specs.Meaning.{cellOf};
 ghost use Rattle.arith.specs.Meaning.{oneOf, twoOf, effectOf};
 
@@ -41,6 +41,7 @@ fn store_effect(
 
 pub fn one(
     image: &[u8],
+    map: &mut [u8],
     pad: &mut [u8],
     vram: &mut [u8],
     journal: &mut [u32],
@@ -49,9 +50,9 @@ pub fn one(
     wide: bool,
 ) -> Now
     requires { ⌜ IsPad pad × IsVram vram ⌝ }
-    ensures { λ r. ⌜ Does (oneRule (oneOf op) wide) (Image image & Pad pad & Vram vram & Journal journal) m r ⌝ }
+    ensures { λ r. ⌜ Does (oneRule (oneOf op) wide) (Image image & Map map & Pad pad & Vram vram & Journal journal) m r ⌝ }
 {
-    let target = read_target(image, pad, vram, journal, m, wide);
+    let target = read_target(image, map, pad, vram, journal, m, wide);
     let v = target.now;
     let place = target.place;
     let e = effects::one_effect(op, wide, v.word);
@@ -61,6 +62,7 @@ pub fn one(
 // The destination is read before the source.
 pub fn two(
     image: &[u8],
+    map: &mut [u8],
     pad: &mut [u8],
     vram: &mut [u8],
     journal: &mut [u32],
@@ -70,12 +72,12 @@ pub fn two(
     wide: bool,
 ) -> Now
     requires { ⌜ IsPad pad × IsVram vram ⌝ }
-    ensures { λ r. ⌜ Does (twoRule (twoOf op) imm wide) (Image image & Pad pad & Vram vram & Journal journal) m r ⌝ }
+    ensures { λ r. ⌜ Does (twoRule (twoOf op) imm wide) (Image image & Map map & Pad pad & Vram vram & Journal journal) m r ⌝ }
 {
-    let target = read_target(image, pad, vram, journal, m, wide);
+    let target = read_target(image, map, pad, vram, journal, m, wide);
     let a = target.now;
     let place = target.place;
-    let b = values::source(image, pad, vram, journal, a, imm, wide);
+    let b = values::source(image, map, pad, vram, journal, a, imm, wide);
     let e = effects::two_effect(op, wide, a.word, b.word);
     store_effect(pad, vram, journal, b, wide, place, e)
 }
@@ -83,6 +85,7 @@ pub fn two(
 // Each operand gets the other's value, the destination first.
 pub fn ex(
     image: &[u8],
+    map: &mut [u8],
     pad: &mut [u8],
     vram: &mut [u8],
     journal: &mut [u32],
@@ -90,12 +93,12 @@ pub fn ex(
     wide: bool,
 ) -> Now
     requires { ⌜ IsPad pad × IsVram vram ⌝ }
-    ensures { λ r. ⌜ Does (exRule wide) (Image image & Pad pad & Vram vram & Journal journal) m r ⌝ }
+    ensures { λ r. ⌜ Does (exRule wide) (Image image & Map map & Pad pad & Vram vram & Journal journal) m r ⌝ }
 {
-    let target = read_target(image, pad, vram, journal, m, wide);
+    let target = read_target(image, map, pad, vram, journal, m, wide);
     let a = target.now;
     let place = target.place;
-    let other = read_target(image, pad, vram, journal, a, wide);
+    let other = read_target(image, map, pad, vram, journal, a, wide);
     let b = other.now;
     let other_place = other.place;
     let first = values::result(pad, vram, journal, b, wide, place, b.word);

@@ -14,7 +14,7 @@ ghost use Rattle.rules.specs.Arithmetic.{half, span};
 ghost use Rattle.rules.specs.Operands.{byteCount, past};
 ghost use Rattle.rules.specs.Instructions;
 ghost use Rattle.rules.specs.Instructions.{halves, mulRule, divStatus, divOverflow, divRule};
-ghost use Rattle.machine.specs.Meaning.{_&_, Does, Image, IsPad, IsVram, Journal, Pad, Vram};
+ghost use Rattle.machine.specs.Meaning.{_&_, Does, Image, IsPad, IsVram, Journal, Map, Pad, Vram};
 ghost use Rattle.operand.specs.Meaning.{cellOf};
 
 // The place of the low half.
@@ -53,6 +53,7 @@ fn store_halves(
 
 pub fn mul(
     image: &[u8],
+    map: &mut [u8],
     pad: &mut [u8],
     vram: &mut [u8],
     journal: &mut [u32],
@@ -61,12 +62,12 @@ pub fn mul(
     wide: bool,
 ) -> Now
     requires { ⌜ IsPad pad × IsVram vram ⌝ }
-    ensures { λ r. ⌜ Does (mulRule imm wide) (Image image & Pad pad & Vram vram & Journal journal) m r ⌝ }
+    ensures { λ r. ⌜ Does (mulRule imm wide) (Image image & Map map & Pad pad & Vram vram & Journal journal) m r ⌝ }
 {
-    let target = read_target(image, pad, vram, journal, m, wide);
+    let target = read_target(image, map, pad, vram, journal, m, wide);
     let a = target.now;
     let place = target.place;
-    let b = values::source(image, pad, vram, journal, a, imm, wide);
+    let b = values::source(image, map, pad, vram, journal, a, imm, wide);
     let h = products::times(wide, a.word, b.word);
     store_halves(pad, vram, journal, b, wide, place, h)
 }
@@ -116,6 +117,7 @@ fn divided(
 // The status is stored before the low half is read.
 pub fn div(
     image: &[u8],
+    map: &mut [u8],
     pad: &mut [u8],
     vram: &mut [u8],
     journal: &mut [u32],
@@ -124,12 +126,12 @@ pub fn div(
     wide: bool,
 ) -> Now
     requires { ⌜ IsPad pad × IsVram vram ⌝ }
-    ensures { λ r. ⌜ Does (divRule imm wide) (Image image & Pad pad & Vram vram & Journal journal) m r ⌝ }
+    ensures { λ r. ⌜ Does (divRule imm wide) (Image image & Map map & Pad pad & Vram vram & Journal journal) m r ⌝ }
 {
-    let target = read_target(image, pad, vram, journal, m, wide);
+    let target = read_target(image, map, pad, vram, journal, m, wide);
     let upper = target.now;
     let place = target.place;
-    let b = values::source(image, pad, vram, journal, upper, imm, wide);
+    let b = values::source(image, map, pad, vram, journal, upper, imm, wide);
     let flagged = cpu::poke_pad(pad, journal, b, cells::STATUS, div_status(wide));
     let lower = values::standing(pad, vram, flagged, wide, low_half(wide, place));
     divided(

@@ -1,13 +1,15 @@
 -- A run, step by step: what is left, run now, with the counts so far, is the whole.
 use mathlib.Core.Path.{_≡_, refl, _∙_, ap, ap₂, sym, subst}
 use mathlib.Core.Bool.{Bool, true, false}
-use mathlib.Core.List.{List}
-use Prim.Native.Nat.{ℕ, suc, _+_, _-_, _*_, _≤_, _<_}
+use mathlib.Core.List.{List, append-nil}
+use Prim.Native.Nat.{ℕ, zero, suc, _+_, _-_, _*_, _≤_, _<_}
 use native.Mathlib.Omega.{arith}
 use lib.ListN.{length}
+use borrow.Author.Tests.{eq-eqb, ne-eqb}
 use Rattle.rules.specs.Machine.{State}
 use Rattle.rules.specs.Answers.{Answer, saying, well, answerFor, wrongLength}
 use Rattle.rules.specs.Calls.{instruction, fits, Reply, left, step, stepStores, made, Report, report, steps, run}
+use Rattle.rules.specs.Reads.{attemptReads, stepReads, runReads, marked, mappedRun, mapLeft}
 use Rattle.rules.specs.Demands.{Good, Accepted, Demand2}
 use Rattle.rules.proofs.Replies.{demand2}
 use Rattle.rules.proofs.Fits.{fits-used, fits-words}
@@ -15,9 +17,9 @@ use Rattle.rules.proofs.History.{stepped, fits-after}
 use Rattle.bench.specs.declared.at.At.{At}
 use Rattle.bench.specs.declared.walk.Reply as walk
 use Rattle.bench.specs.declared.runs.Report as runs
-use Rattle.bench.specs.Meaning.{stateAt, Returned, returned, leaves, told, settling, stepping, reported, noSteps, Tells}
+use Rattle.bench.specs.Meaning.{stateAt, Returned, returned, leaves, told, marking, settling, stepping, reported, noSteps, Tells}
 use Rattle.bench.proofs.Replies.{accepts, refuses, counts}
-use Rattle.bench.proofs.Steps.{AreBytes, bytes-of, step-fits}
+use Rattle.bench.proofs.Steps.{AreBytes, bytes-of, step-fits, marked-append}
 
 -- k steps with n stores, and then a run
 abbrev ahead : ℕ → ℕ → Report → Report
@@ -89,6 +91,44 @@ module _ {n : ℕ} {s₀ : State} {k c : ℕ} {s : State} {x : Returned walk.Rep
       let more : n - k ≡ suc (n - (k + 1)) = omega arith in
       recount (saying (x .result .answer) (x .result .address)) (leaves x) (omega arith) (omega arith) ∙ (rw (more, refuses call h) at (u .whole))
 
+-- ---- what a run reads, of which the map that was z₀ has become z
+
+module _ {n : ℕ} {s₀ : State} {k c : ℕ} {s : State} {x : Returned walk.Reply} (z : List ℕ) {y : List ℕ} (u : Underway n s₀ k c s)
+    (e : Tells told (settling instruction) s x) (r : y ≡ marking attemptReads z s) where
+  -- the step was done: what it read is marked, and the rest is left
+  pub marks-on : k < n → x .result .answer ≡ 0 → marking (runReads (n - (k + 1))) y (leaves x) ≡ marking (runReads (n - k)) z s
+  unfolding runReads stepReads
+  marks-on l h =
+      let more : n - k ≡ suc (n - (k + 1)) = omega arith in
+      rw (more, u .fit, accepts (call u e) h)
+      (ap (marked (runReads (n - (k + 1)) (leaves x))) r ∙ sym (marked-append (attemptReads s) (runReads (n - (k + 1)) (leaves x)) z))
+
+  -- it was refused: its own reads are the last
+  pub marks-last : k < n → (x .result .answer ≡ 0 → ⊥) → y ≡ marking (runReads (n - k)) z s
+  unfolding runReads stepReads
+  marks-last l h =
+      let more : n - k ≡ suc (n - (k + 1)) = omega arith in
+      rw (more, u .fit, refuses (call u e) h, append-nil (attemptReads s)) r
+
+-- none is made yet
+pub marks-start : (n : ℕ) (s : State) (z : List ℕ) → marking (runReads (n - 0)) z s ≡ marking (runReads n) z s
+marks-start n s z =
+    let all : n - 0 ≡ n = omega arith in
+    rw all
+
+-- none is left
+pub marks-end : (n k : ℕ) (s : State) (z : List ℕ) → n ≤ k → z ≡ marking (runReads (n - k)) z s
+unfolding runReads marked
+marks-end n k s z l =
+    let none : n - k ≡ 0 = omega arith in
+    rw none
+
+-- none is made: so where test 11 fails
+pub marks-none : (n : ℕ) (s : State) (z : List ℕ) → fits (s .mem) ≡ false → z ≡ marking (runReads n) z s
+unfolding runReads stepReads step marked
+marks-none zero s z h = refl
+marks-none (suc n) s z h = rw h
+
 -- ---- how it ends
 
 pub stops : {n : ℕ} {s₀ : State} {k c : ℕ} {s : State} {i p v g j : List ℕ} {r : walk.Reply} → Underway n s₀ k c s
@@ -113,3 +153,22 @@ run-unfit n e h = record { is = rw (sym e ∙ h) }
 pub run-fits : (n : ℕ) {s : State} {x : Returned runs.Report} {t : Bool} → t ≡ fits (s .mem) → t ≡ true → Tells reported (steps n) s x → Tells reported (run n) s x
 unfolding run
 run-fits n e h k = record { is = rw (sym e ∙ h) (k .is) }
+
+-- ---- the call with a map
+
+module _ (n : ℕ) (i p v g j : List ℕ) (at : At) (z : List ℕ) where
+  pub map-unfit : (length z ≡ length i → ⊥) → Tells reported (mappedRun n z) (stateAt i p v g j at) (returned i p v g j (noSteps (answerFor wrongLength) at))
+  unfolding mappedRun
+  map-unfit h = record { is = rw (ne-eqb (length z) (length i) h) }
+
+  pub map-kept : (length z ≡ length i → ⊥) → z ≡ mapLeft n z (stateAt i p v g j at)
+  unfolding mapLeft
+  map-kept h = rw (ne-eqb (length z) (length i) h)
+
+  pub map-fits : {x : Returned runs.Report} → length z ≡ length i → Tells reported (run n) (stateAt i p v g j at) x → Tells reported (mappedRun n z) (stateAt i p v g j at) x
+  unfolding mappedRun
+  map-fits h k = record { is = rw (eq-eqb (length z) (length i) h) (k .is) }
+
+  pub map-left : {y : List ℕ} → length z ≡ length i → y ≡ marking (runReads n) z (stateAt i p v g j at) → y ≡ mapLeft n z (stateAt i p v g j at)
+  unfolding mapLeft
+  map-left h e = rw (eq-eqb (length z) (length i) h) e

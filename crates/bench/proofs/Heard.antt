@@ -43,7 +43,7 @@ Sent bs l o p = (l ≡ length bs) × (l ≤ length o) × (p ≡ bs ++ drop (leng
 
 -- past the mark, the tick's rule sends what the rules say of the tick
 pub tick-sends : (i p v g j : List ℕ) (at : At) {n : Now} {t u : Stand} {f : Source} {l : ℕ} {o q : List ℕ} → n ≡ began (at .pc) (bookAt at)
-    → outOf t ≡ then (outOf (standing i (at .writable) p v g j n)) (λ _ pc₂ m₂. takeMark (flagged (at .pc) (at .source)) pc₂ m₂)
+    → outOf t ≡ then (outOf (standing i [] (at .writable) p v g j n)) (λ _ pc₂ m₂. takeMark (flagged (at .pc) (at .source)) pc₂ m₂)
     → Lays t (tickRule (length o) (at .source)) f u 0 l o q → Sent (tickSent (length o) (stateAt i p v g j at)) l o q
 unfolding tickSent outs
 tick-sends i p v g j at {l = l} {o = o} {q = q} b e y =

@@ -1,12 +1,12 @@
 -- A step in the code's words: how an attempt ends, how a refused one is put back, and what an opcode that has no rule leaves.
 use mathlib.Core.Path.{_≡_, refl, _∙_, ap, ap₂, sym, subst}
 use mathlib.Core.Bool.{Bool, true, false}
-use mathlib.Core.List.{List}
+use mathlib.Core.List.{List, [], _∷_, _++_, append-nil}
 use Prim.Native.Nat.{ℕ, suc, _-_, _≤_, _<_}
 use native.Mathlib.Nat.{sub-self}
 use native.Mathlib.Omega.{arith}
 use lib.Dec.{ltb, eqb}
-use lib.ListN.{length, getD, length-set}
+use lib.ListN.{length, getD, set, length-set}
 use denote.Ref.{RefT, now}
 use mir.Syntax.{w8}
 use mir.Val.{Fits}
@@ -15,10 +15,11 @@ use Rattle.rules.specs.Machine.{pick, _also_, Kind, cpu, vdp, register, grom, M
 use Rattle.rules.specs.Answers.{Why, Answer, well, answerFor, offGrom, wrongLength}
 use Rattle.rules.specs.Journal.{markWord, Store, undo, forget}
 use Rattle.rules.specs.Rules.{Rule, Deed, Out, got, stopped, then, after, valued, next, nextByte, perform, exec}
-use Rattle.rules.specs.Opcodes.{Task, stops, does, starts, classOf}
+use Rattle.rules.specs.Opcodes.{Class, Task, stops, does, starts, classOf}
 use Rattle.rules.specs.Sound.{Source, startRule}
 use Rattle.rules.specs.Tasks.{ruleOf, Plan, go, keeping, planOf}
 use Rattle.rules.specs.Calls.{Way, instruction, imageFits, partsFit, placeFits, fits, done, refused, takeMark, begin, attempt, emptied, settle, fitStep, step, beginStores, stepStores, made}
+use Rattle.rules.specs.Reads.{actReads, readsThen, reads, readsAfter, beginReads, attemptReads, marked}
 use Rattle.rules.specs.Demands.{Bytes, Good}
 use Rattle.rules.proofs.Stores.{memOf, used-after, older-after, used-fits}
 use Rattle.rules.proofs.Laid.{Late}
@@ -33,16 +34,30 @@ use Rattle.machine.specs.Meaning as meaning
 use Rattle.machine.proofs.Chain as chain
 use Rattle.bench.specs.declared.at.At.{At}
 use Rattle.bench.specs.declared.walk.Reply as walk
-use Rattle.bench.specs.Meaning.{bookAt, rests, stateAt, Returned, returned, outcome, replies, told, refusal, settled, beginning, settling, stepping, Tells, Tries, Before, Begun}
+use Rattle.bench.specs.Meaning.{bookAt, rests, stateAt, Returned, returned, outcome, replies, told, refusal, settled, beginning, marking, beginningReads, settling, stepping, Tells, Tries, Before, Begun}
+
+pub marked-append : (k l z : List ℕ) → marked (k ++ l) z ≡ marked l (marked k z)
+unfolding marked
+marked-append [] l z = refl
+marked-append (a ∷ k) l z = marked-append k l (set z a 1)
 
 -- ---- an attempt
 
 -- where pc is pc₁, the mark of a machine at `at` and a rule are the rules' attempt
 pub tries : {i p v g : List ℕ} (j : List ℕ) {r : Rule Source} {f : Source} {at : At} {pc₁ : ℕ} {n : Now} {s e : Stand} → n ≡ began pc₁ (bookAt at)
-    → outOf s ≡ then (outOf (standing i (at .writable) p v g j n)) (λ _ pc₂ m₂. takeMark (flagged (at .pc) (at .source)) pc₂ m₂) → Goes s r f e
-    → Tries r f pc₁ (stateAt i p v g j at) e
+    → outOf s ≡ then (outOf (standing i [] (at .writable) p v g j n)) (λ _ pc₂ m₂. takeMark (flagged (at .pc) (at .source)) pc₂ m₂) → Goes s r f e
+    → Tries r f pc₁ (stateAt i p v g j at) (stand (e .answer) (e .pc) (e .mem) [])
 unfolding begin outs
 tries j {r = r} b k h = record { is = h .is ∙ ap (λ (x : Out (Unit {0})). after x r) (k ∙ rw b) }
+
+-- and what they read is marked
+pub tries-marks : (i p v g j : List ℕ) (at : At) {r : Rule Source} {f : Source} {pc₁ : ℕ} {n : Now} {s e : Stand} → n ≡ began pc₁ (bookAt at)
+    → outOf s ≡ then (outOf (standing i [] (at .writable) p v g j n)) (λ _ pc₂ m₂. takeMark (flagged (at .pc) (at .source)) pc₂ m₂) → Goes s r f e
+    → e .map ≡ marking (beginningReads r pc₁) (s .map) (stateAt i p v g j at)
+unfolding beginReads readsAfter outs
+tries-marks i p v g j at {r = r} {pc₁ = pc₁} {s = s} b k h =
+    let taken : outOf s ≡ takeMark (flagged (at .pc) (at .source)) pc₁ (atRest (stateAt i p v g j at .mem)) = k ∙ rw b in
+    h .marks ∙ ap (λ (x : Out (Unit {0})). marked (readsAfter x r) (s .map)) taken
 
 -- a rule that leaves the flag as it is
 pub keeps : {s e : Stand} {r : Deed} {f : Source} → Goes s r tt e → Goes s (keeping f r) f e
@@ -65,7 +80,7 @@ module _ {pc : ℕ} {m : Mem} where
   tried-fits early l = l
   tried-fits (late h) l = used-fits (h .makes) (rw (length-set (forget (h .dropped) m .journal) (forget (h .dropped) m .used) (markWord pc)) (h .word-left))
 
-module _ {r : Rule Source} {f : Source} {a : Answer} {pc₁ pc₂ : ℕ} {s : State} {m : Mem} (g : Tries r f pc₁ s (stand a pc₂ m))
+module _ {r : Rule Source} {f : Source} {a : Answer} {pc₁ pc₂ : ℕ} {s : State} {m : Mem} (g : Tries r f pc₁ s (stand a pc₂ m []))
     (u : s .mem .used ≤ length (s .mem .journal)) where
   abbrev stored : List Store
   stored = beginStores (address s) (go r) pc₁ (atRest (s .mem))
@@ -93,7 +108,7 @@ module _ {r : Rule Source} {f : Source} {a : Answer} {pc₁ pc₂ : ℕ} {s : St
 
 -- so it has begun
 pub begun : {w : ℕ} {i p v g : List ℕ} {j : RefT (List ℕ)} {n : Now} {r : Rule Source} {f : Source} {pc₁ : ℕ} {s : State}
-    → Tries r f pc₁ s (standing i w p v g (now j) n) → s .mem .used ≤ length (s .mem .journal) → Begun j n
+    → Tries r f pc₁ s (standing i [] w p v g (now j) n) → s .mem .used ≤ length (s .mem .journal) → Begun j n
 begun {j = j} {n = n} h u =
     record {
       own = own-above h u;
@@ -102,7 +117,7 @@ begun {j = j} {n = n} h u =
     }
 
 pub settle-done : {w : ℕ} {i p v g j : List ℕ} {r : Rule Source} {f : Source} {at : At} {a : Answer} {pc₁ pc n : ℕ} {b : Book} {s : State} → Before at s
-    → Tries r f pc₁ s (stand a pc (meaning.memOf i w p v g j b)) → a .number ≡ 0 → n ≡ b .used - b .older - 1
+    → Tries r f pc₁ s (stand a pc (meaning.memOf i w p v g j b) []) → a .number ≡ 0 → n ≡ b .used - b .older - 1
     → Tells told (beginning r pc₁) s (returned i p v g j (record { answer = 0; address = 0; stores = n; at = rests pc b w f }))
 unfolding outs valued replies
 settle-done {w} {i} {p} {v} {g} {j} {r} {f} {pc₁ = pc₁} {pc = pc} {n = n} {b = b} {s = s} k h z q =
@@ -111,7 +126,7 @@ settle-done {w} {i} {p} {v} {g} {j} {r} {f} {pc₁ = pc₁} {pc = pc} {n = n} {b
     record { is = ap (outcome (done (state pc f (atRest (meaning.memOf i w p v g j b))))) count ∙ ap (λ (o : Out Source). settled s o ss) (rw z at (h .is)) }
 
 pub settle-undone : {w : ℕ} {i p v g j : List ℕ} {r : Rule Source} {f : Source} {at : At} {a : Answer} {pc₁ pc₂ : ℕ} {s : State} {m : Mem} {c : Book} → Before at s
-    → Tries r f pc₁ s (stand a pc₂ m) → (a .number ≡ 0 → ⊥) → meaning.memOf i w p v g j c ≡ undo (m .used - m .older) m
+    → Tries r f pc₁ s (stand a pc₂ m []) → (a .number ≡ 0 → ⊥) → meaning.memOf i w p v g j c ≡ undo (m .used - m .older) m
     → Tells told (beginning r pc₁) s (returned i p v g j (refusal a (rests (at .pc) c w (at .source))))
 unfolding outs valued replies
 settle-undone {w} {i} {p} {v} {g} {j} {r} {at = at} {a = a} {pc₁ = pc₁} {s = s} {m = m} {c = c} k h f q =
@@ -152,9 +167,9 @@ lent-so {i} {p} {v} {g} j {at} u l w bi bp bv bg =
 -- ---- the opcode read
 
 -- of a machine that has begun, by where it has
-pub from : {A : Type 0} {w : ℕ} {i p v g : List ℕ} (j : List ℕ) {n : Now} {pc : ℕ} {b : Book} {r : Rule A} {a : A} {t : Stand} → n ≡ began pc b
-    → Goes (standing i w p v g j n) r a t → Goes (stand well pc (meaning.memOf i w p v g j b)) r a t
-from {w = w} {i = i} {p = p} {v = v} {g = g} j {r = r} {a = a} {t = t} e h = subst (λ (x : Now). Goes (standing i w p v g j x) r a t) e h
+pub from : {A : Type 0} {w : ℕ} {i z p v g : List ℕ} (j : List ℕ) {n : Now} {pc : ℕ} {b : Book} {r : Rule A} {a : A} {t : Stand} → n ≡ began pc b
+    → Goes (standing i z w p v g j n) r a t → Goes (stand well pc (meaning.memOf i w p v g j b) z) r a t
+from {w = w} {i = i} {z = z} {p = p} {v = v} {g = g} j {r = r} {a = a} {t = t} e h = subst (λ (x : Now). Goes (standing i z w p v g j x) r a t) e h
 
 then-got : {A : Type 0} (o : Out A) → then o (λ v pc m. got v pc m) ≡ o
 then-got (got v pc m) = refl
@@ -168,7 +183,12 @@ memOf-next pc m = go (ltb pc (length (m .image)))
     go true = refl
     go false = refl
 
-module _ {b pc₁ : ℕ} {a : Answer} (s : State) {m : Mem} (g : Goes (stand well (s .pc) (atRest (s .mem))) nextByte b (stand a pc₁ m)) where
+-- a byte that is only read
+readsThen-none : {A : Type 0} (o : Out A) → readsThen o (λ _ pc m. []) ≡ []
+readsThen-none (got a pc m) = refl
+readsThen-none (stopped n m) = refl
+
+module _ {b pc₁ : ℕ} {a : Answer} (s : State) {m : Mem} {z y : List ℕ} (g : Goes (stand well (s .pc) (atRest (s .mem)) z) nextByte b (stand a pc₁ m y)) where
   next-is : perform next (s .pc) (atRest (s .mem)) ≡ valued b (outs a pc₁ m)
   unfolding after outs exec
   next-is = sym (g .is ∙ then-got (perform next (s .pc) (atRest (s .mem))))
@@ -201,6 +221,23 @@ module _ {b pc₁ : ℕ} {a : Answer} (s : State) {m : Mem} (g : Goes (stand wel
   unfolding stepStores
   stores-are z = rw (read z)
 
+  -- the opcode is marked, and what follows it
+  opcode-marked : y ≡ marked (actReads next (s .pc) (atRest (s .mem))) z
+  unfolding outs readsAfter reads
+  opcode-marked = g .marks ∙ ap (λ (l : List ℕ). marked l z)
+      (ap (λ (l : List ℕ). actReads next (s .pc) (atRest (s .mem)) ++ l) (readsThen-none (perform next (s .pc) (atRest (s .mem)))) ∙ append-nil _)
+
+  pub missed-marked : (a .number ≡ 0 → ⊥) → y ≡ marking attemptReads z s
+  unfolding attemptReads
+  missed-marked h = rw (missed h, append-nil (actReads next (s .pc) (atRest (s .mem)))) opcode-marked
+
+  pub step-marked : {x : List ℕ} → a .number ≡ 0 → x ≡ marked (beginReads (address s) (planOf (s .source) (classOf b)) pc₁ (atRest (s .mem))) y
+      → x ≡ marking attemptReads z s
+  unfolding attemptReads
+  step-marked n h =
+      rw (read n) (h ∙ ap (marked (beginReads (address s) (planOf (s .source) (classOf b)) pc₁ (atRest (s .mem)))) opcode-marked
+      ∙ sym (marked-append (actReads next (s .pc) (atRest (s .mem))) _ z))
+
   -- by its plan
   step-goes : {r : Rule Source} {x : Returned walk.Reply} → a .number ≡ 0 → go r ≡ planOf (s .source) (classOf b) → Tells told (beginning r pc₁) s x
       → Tells told (settling instruction) s x
@@ -216,11 +253,26 @@ module _ {b pc₁ : ℕ} {a : Answer} (s : State) {m : Mem} (g : Goes (stand wel
   unfolding planOf
   step-does z c e = step-goes z (ap (planOf (s .source)) c) e
 
+  pub does-marked : {t : Task} {x : List ℕ} → a .number ≡ 0 → does t ≡ classOf b → x ≡ marking (beginningReads (keeping (s .source) (ruleOf t)) pc₁) y s
+      → x ≡ marking attemptReads z s
+  unfolding planOf
+  does-marked n c h = step-marked n (h ∙ ap (λ (q : Class). marked (beginReads (address s) (planOf (s .source) q) pc₁ (atRest (s .mem))) y) c)
+
   -- the start of a list
   pub step-starts : {imm wide : Bool} {x : Returned walk.Reply} → a .number ≡ 0 → starts imm wide ≡ classOf b → Tells told (beginning (startRule imm wide) pc₁) s x
       → Tells told (settling instruction) s x
   unfolding planOf
   step-starts z c e = step-goes z (ap (planOf (s .source)) c) e
+
+  pub starts-marked : {imm wide : Bool} {x : List ℕ} → a .number ≡ 0 → starts imm wide ≡ classOf b → x ≡ marking (beginningReads (startRule imm wide) pc₁) y s
+      → x ≡ marking attemptReads z s
+  unfolding planOf
+  starts-marked n c h = step-marked n (h ∙ ap (λ (q : Class). marked (beginReads (address s) (planOf (s .source) q) pc₁ (atRest (s .mem))) y) c)
+
+  -- of one that is stopped nothing more is read
+  pub halted-marked : {why : Why} → a .number ≡ 0 → stops why ≡ classOf b → y ≡ marking attemptReads z s
+  unfolding planOf beginReads marked
+  halted-marked n c = step-marked n (ap (λ (q : Class). marked (beginReads (address s) (planOf (s .source) q) pc₁ (atRest (s .mem))) y) c)
 
 -- stopped before the mark
 untouched : {i p v g j : List ℕ} {at : At} {a : Answer} → (a .number ≡ 0 → ⊥) → attempt instruction (stateAt i p v g j at) ≡ stopped a (stateAt i p v g j at .mem)
@@ -228,7 +280,8 @@ untouched : {i p v g j : List ℕ} {at : At} {a : Answer} → (a .number ≡ 0 �
 unfolding replies
 untouched {at = at} {a = a} h e = record { is = rw (ne-eqb (a .number) 0 h, e, sub-self (at .used)) }
 
-module _ {i p v g j : List ℕ} {at : At} {b pc₁ : ℕ} {a : Answer} {m : Mem} (h : Goes (stand well (at .pc) (stateAt i p v g j at .mem)) nextByte b (stand a pc₁ m)) where
+module _ {i p v g j : List ℕ} {at : At} {b pc₁ : ℕ} {a : Answer} {m : Mem} {z y : List ℕ}
+    (h : Goes (stand well (at .pc) (stateAt i p v g j at .mem) z) nextByte b (stand a pc₁ m y)) where
   -- 6: no opcode
   pub step-beyond : (a .number ≡ 0 → ⊥) → Tells told (settling instruction) (stateAt i p v g j at) (returned i p v g j (refusal a at))
   step-beyond f = untouched f (attempt-missed (stateAt i p v g j at) h f)

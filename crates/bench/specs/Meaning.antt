@@ -1,6 +1,6 @@
 -- What the public calls take and hand back, in the words of the rules.
 use mathlib.Core.Path.{_≡_}
-use mathlib.Core.Bool.{Bool, true}
+use mathlib.Core.Bool.{true}
 use mathlib.Core.List.{List, []}
 use Prim.Native.Nat.{ℕ, _-_, _≤_, _<_}
 use lib.Dec.{eqb, leb}
@@ -10,15 +10,15 @@ use Rattle.rules.specs.Machine.{pick, State, state, address, atRest}
 use Rattle.rules.specs.Answers.{Answer, saying}
 use Rattle.rules.specs.Journal.{Store}
 use Rattle.rules.specs.Rules.{Rule, Out, got, stopped, valued}
-use Rattle.rules.specs.Operands.{Width}
 use Rattle.rules.specs.Opcodes.{Task}
-use Rattle.rules.specs.Sound.{Source, startRule}
+use Rattle.rules.specs.Sound.{Source}
 use Rattle.rules.specs.Tasks.{ruleOf, go, keeping}
 use Rattle.rules.specs.Calls as calls
+use Rattle.rules.specs.Reads.{beginReads, attemptReads, marked, mappedRun, mapLeft}
 use Rattle.rules.specs.Demands.{Good}
 use Rattle.ring.specs.declared.book.Book.{Book}
 use Rattle.machine.specs.declared.state.Now.{Now}
-use Rattle.machine.specs.Meaning.{IsPad, IsVram, IsRegs, Lent, Parts, Rest, after′, memOf, memBefore, start, unseenAll, Stand, outOf}
+use Rattle.machine.specs.Meaning.{IsPad, IsVram, IsRegs, Lent, Parts, Rest, after′, memOf, memBefore, start, unmapped, Stand, outOf}
 use Rattle.bench.specs.declared.at.At.{At}
 use Rattle.bench.specs.declared.walk.Reply as walk
 use Rattle.bench.specs.declared.runs.Report as runs
@@ -112,13 +112,9 @@ settled s (stopped a m) ss = outcome (calls.settle s (stopped a m)) 0
 abbrev pub beginning : Rule Source → ℕ → State → Outcome
 beginning r pc₁ s = settled s (calls.begin (address s) (go r) pc₁ (atRest (s .mem))) (calls.beginStores (address s) (go r) pc₁ (atRest (s .mem)))
 
--- a task, which leaves the flag as it is
-abbrev pub doing : Task → At → ℕ → State → Outcome
-doing t at pc₁ s = beginning (keeping (at .source) (ruleOf t)) pc₁ s
-
--- the start of a list
-abbrev pub starting : Bool → Width → ℕ → State → Outcome
-starting imm w pc₁ s = beginning (startRule imm w) pc₁ s
+-- a task's, which leaves the flag as it is
+abbrev pub doing : Task → At → Rule Source
+doing t at = keeping (at .source) (ruleOf t)
 
 -- a step past test 11
 abbrev pub settling : calls.Way → State → Outcome
@@ -135,6 +131,16 @@ undoing s = outcome (calls.fitBack s) 0
 -- a step back
 abbrev pub backing : State → Outcome
 backing s = outcome (calls.stepBack s) 0
+
+-- ---- the bytes of the image that are read
+
+-- they are marked in a map
+abbrev pub marking : (State → List ℕ) → List ℕ → State → List ℕ
+marking f z s = marked (f s) z
+
+-- by a rule past the mark, where pc is pc₁
+abbrev pub beginningReads : Rule Source → ℕ → State → List ℕ
+beginningReads r pc₁ s = beginReads (address s) (go r) pc₁ (atRest (s .mem))
 
 -- ---- a run: the rules' report
 
@@ -212,17 +218,38 @@ Returns say f q at r =
 -- whatever was tried, from whichever state at `at`, it is settled
 abbrev pub Settles : (Parts → Parts) → At → Now → Source → walk.Reply → Type 0
 Settles parts at m f x =
-    (rest : Rest (parts unseenAll)) (r : Rule Source) (pc₁ : ℕ) (s : State) → Before at s → Tries r f pc₁ s (start (parts unseenAll) rest m)
-    → Tells told (beginning r pc₁) s (returnedBy (parts unseenAll) rest x)
+    (rest : Rest (parts unmapped)) (r : Rule Source) (pc₁ : ℕ) (s : State) → Before at s → Tries r f pc₁ s (start (parts unmapped) rest m)
+    → Tells told (beginning r pc₁) s (returnedBy (parts unmapped) rest x)
 
 abbrev pub Replies : (State → Outcome) → (Parts → Parts) → At → walk.Reply → Type 0
-Replies f parts at r = Returns told f (parts unseenAll) at r
+Replies f parts at r = Returns told f (parts unmapped) at r
 
 abbrev pub Hears : (List ℕ → State → Heard) → (Parts → Parts) → Lent → At → Ticked → Type 0
-Hears f parts o at r = Returns (heard (now (o .exit))) (f (now (o .entry))) (parts unseenAll) at r
+Hears f parts o at r = Returns (heard (now (o .exit))) (f (now (o .entry))) (parts unmapped) at r
 
 abbrev pub Reports : (State → calls.Report) → (Parts → Parts) → At → runs.Report → Type 0
-Reports f parts at r = Returns reported f (parts unseenAll) at r
+Reports f parts at r = Returns reported f (parts unmapped) at r
+
+-- the map that a call is lent becomes what f makes of it and of the state lent
+abbrev pub Sees : (List ℕ → State → List ℕ) → (Parts → Parts) → Lent → At → Type 0
+Sees f parts z at = (rest : Rest (parts unmapped)) → now (z .exit) ≡ f (now (z .entry)) (lentTo (parts unmapped) rest at)
+
+-- as `Replies`, and the bytes that g says are read are marked in a map: by the mark and a rule, and by a step past test 11
+abbrev pub Notes : (State → Outcome) → (State → List ℕ) → (Parts → Parts) → Lent → At → walk.Reply → Type 0
+Notes f g parts z at r = Replies f parts at r × Sees (marking g) parts z at
+
+abbrev pub Begins : Rule Source → ℕ → (Parts → Parts) → Lent → At → walk.Reply → Type 0
+Begins r pc₁ = Notes (beginning r pc₁) (beginningReads r pc₁)
+
+abbrev pub Attempts : (Parts → Parts) → Lent → At → walk.Reply → Type 0
+Attempts = Notes (settling calls.instruction) attemptReads
+
+-- as `Reports`, in the same way; and the call with a map
+abbrev pub Charts : (State → calls.Report) → (State → List ℕ) → (Parts → Parts) → Lent → At → runs.Report → Type 0
+Charts f g parts z at r = Reports f parts at r × Sees (marking g) parts z at
+
+abbrev pub Maps : ℕ → (Parts → Parts) → Lent → At → runs.Report → Type 0
+Maps n parts z at r = Reports (mappedRun n (now (z .entry))) parts at r × Sees (mapLeft n) parts z at
 
 -- ---- the viewer
 

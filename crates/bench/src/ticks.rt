@@ -61,7 +61,16 @@ fn fit_tick(
     ensures { λ r. ⌜ Hears fitTicking (Image image & Groups (at .writable) & Pad pad & Vram vram & Regs regs & Journal journal) output at r ⌝ }
 {
     let marked = machine::journal::take_mark(journal, at::begin(at, at.pc), at.pc, at.source);
-    let t = sound::tick::tick(image, pad, vram, journal, output, marked, at.source);
+    let t = sound::tick::tick(
+        image,
+        &mut [],
+        pad,
+        vram,
+        journal,
+        output,
+        marked,
+        at.source,
+    );
     let r = walk::settle(image, pad, vram, regs, journal, at, t.now, t.source);
     if r.answer == 0 {
         return sending(r, t.sent);

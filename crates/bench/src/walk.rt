@@ -10,9 +10,10 @@ use opcode::class::Task;
 ghost use mathlib.Core.Path.{_≡_};
 ghost use Rattle.rules.specs.Answers.{saying, answerFor};
 ghost use Rattle.rules.specs.Calls.{instruction};
+ghost use Rattle.rules.specs.Sound.{startRule};
 ghost use Rattle.opcode.specs.Meaning.{taskOf};
 ghost use Rattle.machine.specs.Meaning.{whyOf, _&_, Groups, Image, Journal, Pad, Regs, Vram};
-ghost use Rattle.bench.specs.Meaning.{Fit, Begun, Settles, Replies, refusal, doing, starting, settling, stepping, undoing, backing};
+ghost use Rattle.bench.specs.Meaning.{Fit, Begun, Settles, Replies, Begins, Attempts, refusal, doing, stepping, undoing, backing};
 
 // What a call leaves: its answer, with the address that was turned down or 0, how many bytes it stored, and where the machine stands.
 pub struct Reply {
@@ -77,6 +78,7 @@ pub(crate) fn settle(
 // The mark and the task. The opcode stood at `at`, and `next` is past it.
 fn do_task(
     image: &mut [u8],
+    map: &mut [u8],
     pad: &mut [u8],
     vram: &mut [u8],
     regs: &mut [u8],
@@ -86,16 +88,27 @@ fn do_task(
     task: Task,
 ) -> Reply
     requires { ⌜ Fit pad vram regs journal at ⌝ }
-    ensures { λ r. ⌜ Replies (doing (taskOf task) at next) (Image image & Groups (at .writable) & Pad pad & Vram vram & Regs regs & Journal journal) at r ⌝ }
+    ensures { λ r. ⌜ Begins (doing (taskOf task) at) next (Image image & Groups (at .writable) & Pad pad & Vram vram & Regs regs & Journal journal) map at r ⌝ }
 {
     let marked = machine::journal::take_mark(journal, at::begin(at, next), at.pc, at.source);
-    let m = opcode::task::perform(image, pad, vram, regs, journal, marked, at.writable, task);
+    let m = opcode::task::perform(
+        image,
+        map,
+        pad,
+        vram,
+        regs,
+        journal,
+        marked,
+        at.writable,
+        task,
+    );
     settle(image, pad, vram, regs, journal, at, m, at.source)
 }
 
 // The mark and the start of a sound list.
 fn do_start(
     image: &mut [u8],
+    map: &mut [u8],
     pad: &mut [u8],
     vram: &mut [u8],
     regs: &mut [u8],
@@ -106,10 +119,10 @@ fn do_start(
     wide: bool,
 ) -> Reply
     requires { ⌜ Fit pad vram regs journal at ⌝ }
-    ensures { λ r. ⌜ Replies (starting imm wide next) (Image image & Groups (at .writable) & Pad pad & Vram vram & Regs regs & Journal journal) at r ⌝ }
+    ensures { λ r. ⌜ Begins (startRule imm wide) next (Image image & Groups (at .writable) & Pad pad & Vram vram & Regs regs & Journal journal) map at r ⌝ }
 {
     let marked = machine::journal::take_mark(journal, at::begin(at, next), at.pc, at.source);
-    let started = sound::start::start(image, pad, vram, journal, marked, imm, wide);
+    let started = sound::start::start(image, map, pad, vram, journal, marked, imm, wide);
     settle(
         image,
         pad,
@@ -125,6 +138,7 @@ fn do_start(
 // A step past test 11: the opcode, and its class.
 pub(crate) fn fit_step(
     image: &mut [u8],
+    map: &mut [u8],
     pad: &mut [u8],
     vram: &mut [u8],
     regs: &mut [u8],
@@ -132,17 +146,28 @@ pub(crate) fn fit_step(
     at: At,
 ) -> Reply
     requires { ⌜ Fit pad vram regs journal at ⌝ }
-    ensures { λ r. ⌜ Replies (settling instruction) (Image image & Groups (at .writable) & Pad pad & Vram vram & Regs regs & Journal journal) at r ⌝ }
+    ensures { λ r. ⌜ Attempts (Image image & Groups (at .writable) & Pad pad & Vram vram & Regs regs & Journal journal) map at r ⌝ }
 {
-    let op = machine::grom::next_byte(image, at::begin(at, at.pc));
+    let op = machine::grom::next_byte(image, map, at::begin(at, at.pc));
     if op.answer != 0 {
         return refused(op.answer, op.address, at);
     }
     let class = opcode::class::class_of(op.byte);
     match class {
         Class::Stops(why) => turned_down(why, at),
-        Class::Does(task) => do_task(image, pad, vram, regs, journal, at, op.pc, task),
-        Class::Starts(imm, wide) => do_start(image, pad, vram, regs, journal, at, op.pc, imm, wide),
+        Class::Does(task) => do_task(image, map, pad, vram, regs, journal, at, op.pc, task),
+        Class::Starts(imm, wide) => do_start(
+            image,
+            map,
+            pad,
+            vram,
+            regs,
+            journal,
+            at,
+            op.pc,
+            imm,
+            wide,
+        ),
     }
 }
 
@@ -167,7 +192,7 @@ pub fn step(
     if !fit {
         return turned_down(Why::WrongLength, at);
     }
-    fit_step(image, pad, vram, regs, journal, at)
+    fit_step(image, &mut [], pad, vram, regs, journal, at)
 }
 
 // ---- a step back

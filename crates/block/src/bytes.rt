@@ -7,16 +7,24 @@ ghost use Rattle.rules.specs.Machine.{cpu, grom, register, vdp};
 ghost use Rattle.rules.specs.Operands.{cell};
 ghost use Rattle.rules.specs.Instructions.{beyond, sourceByte, registerOne, moveByte};
 ghost use Rattle.rules.specs.Instructions;
-ghost use Rattle.machine.specs.Meaning.{_&_, Does, Gives, Groups, Image, IsPad, IsRegs, IsVram, Journal, Pad, Regs, Vram};
+ghost use Rattle.machine.specs.Meaning.{_&_, Does, Gives, Groups, Image, IsPad, IsRegs, IsVram, Journal, Map, Pad, Regs, Vram};
 ghost use Rattle.block.specs.Meaning.{targetOf, originOf};
 
 // A GROM address counts in 16 bits.
-fn source_byte(image: &[u8], pad: &[u8], vram: &[u8], m: Now, from: Origin, k: u16) -> Now
+fn source_byte(
+    image: &[u8],
+    map: &mut [u8],
+    pad: &[u8],
+    vram: &[u8],
+    m: Now,
+    from: Origin,
+    k: u16,
+) -> Now
     requires { ⌜ IsPad pad × IsVram vram ⌝ }
-    ensures { λ r. ⌜ Gives (r .byte) (sourceByte (originOf from) k) (Image image & Pad pad & Vram vram) m r ⌝ }
+    ensures { λ r. ⌜ Gives (r .byte) (sourceByte (originOf from) k) (Image image & Map map & Pad pad & Vram vram) m r ⌝ }
 {
     match from {
-        Origin::Grom(a) => machine::grom::grom_byte(image, m, number::addresses::plus(a, k)),
+        Origin::Grom(a) => machine::grom::grom_byte(image, map, m, number::addresses::plus(a, k)),
         Origin::Cpu(a) => {
             let at = a as usize + k as usize;
             machine::pad::peek_pad(pad, m, at)
@@ -97,6 +105,7 @@ fn deliver(
 
 pub fn move_byte(
     image: &mut [u8],
+    map: &mut [u8],
     pad: &mut [u8],
     vram: &mut [u8],
     regs: &mut [u8],
@@ -108,15 +117,16 @@ pub fn move_byte(
     k: u16,
 ) -> Now
     requires { ⌜ IsPad pad × IsVram vram × IsRegs regs ⌝ }
-    ensures { λ r. ⌜ Does (moveByte (originOf from) (targetOf to) k) (Image image & Groups groups & Pad pad & Vram vram & Regs regs & Journal journal) m r ⌝ }
+    ensures { λ r. ⌜ Does (moveByte (originOf from) (targetOf to) k) (Image image & Map map & Groups groups & Pad pad & Vram vram & Regs regs & Journal journal) m r ⌝ }
 {
-    let b = source_byte(image, pad, vram, m, from, k);
+    let b = source_byte(image, map, pad, vram, m, from, k);
     deliver(image, pad, vram, regs, journal, b, groups, to, k, b.byte)
 }
 
 // From GROM to VDP RAM.
 pub fn grom_to_vdp(
     image: &[u8],
+    map: &mut [u8],
     vram: &mut [u8],
     journal: &mut [u32],
     m: Now,
@@ -125,9 +135,9 @@ pub fn grom_to_vdp(
     k: u16,
 ) -> Now
     requires { ⌜ IsVram vram ⌝ }
-    ensures { λ r. ⌜ Does (moveByte (cell grom a) (cell vdp t) k) (Image image & Vram vram & Journal journal) m r ⌝ }
+    ensures { λ r. ⌜ Does (moveByte (cell grom a) (cell vdp t) k) (Image image & Map map & Vram vram & Journal journal) m r ⌝ }
 {
-    let b = machine::grom::grom_byte(image, m, number::addresses::plus(a, k));
+    let b = machine::grom::grom_byte(image, map, m, number::addresses::plus(a, k));
     let at = t as usize + k as usize;
     machine::vdp::poke_vdp(vram, journal, b, at, b.byte)
 }

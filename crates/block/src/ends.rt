@@ -5,7 +5,7 @@ ghost use mathlib.Core.Path.{_≡_};
 ghost use Rattle.rules.specs.Machine.{grom};
 ghost use Rattle.rules.specs.Operands.{cell, place};
 ghost use Rattle.rules.specs.Instructions.{registerCell, ramTarget, moveTarget, gromCell, moveSource};
-ghost use Rattle.machine.specs.Meaning.{_&_, Gives, Image, IsPad, Journal, Pad};
+ghost use Rattle.machine.specs.Meaning.{_&_, Gives, Image, IsPad, Journal, Map, Pad};
 ghost use Rattle.operand.specs.Meaning.{cellOf};
 ghost use Rattle.block.specs.Meaning.{targetOf, originOf};
 
@@ -51,21 +51,21 @@ fn origin_at(place: Place) -> Origin
     }
 }
 
-fn register_cell(image: &[u8], m: Now) -> Aimed
-    ensures { λ r. ⌜ Gives (targetOf (r .target)) registerCell (Image image) m (r .now) ⌝ }
+fn register_cell(image: &[u8], map: &mut [u8], m: Now) -> Aimed
+    ensures { λ r. ⌜ Gives (targetOf (r .target)) registerCell (Image image & Map map) m (r .now) ⌝ }
 {
-    let n = machine::grom::next_byte(image, m);
+    let n = machine::grom::next_byte(image, map, m);
     Aimed {
         now: n,
         target: Target::Register(n.byte),
     }
 }
 
-fn place_target(image: &[u8], pad: &mut [u8], journal: &mut [u32], m: Now) -> Aimed
+fn place_target(image: &[u8], map: &mut [u8], pad: &mut [u8], journal: &mut [u32], m: Now) -> Aimed
     requires { ⌜ IsPad pad ⌝ }
-    ensures { λ r. ⌜ Gives (targetOf (r .target)) place (Image image & Pad pad & Journal journal) m (r .now) ⌝ }
+    ensures { λ r. ⌜ Gives (targetOf (r .target)) place (Image image & Map map & Pad pad & Journal journal) m (r .now) ⌝ }
 {
-    let o = operand::decode::operand(image, pad, journal, m, 1);
+    let o = operand::decode::operand(image, map, pad, journal, m, 1);
     Aimed {
         now: operand::places::now_of(o),
         target: target_at(operand::places::place_of(o)),
@@ -73,28 +73,36 @@ fn place_target(image: &[u8], pad: &mut [u8], journal: &mut [u32], m: Now) -> Ai
 }
 
 // A register number, or a place.
-fn ram_target(image: &[u8], pad: &mut [u8], journal: &mut [u32], m: Now, register: bool) -> Aimed
+fn ram_target(
+    image: &[u8],
+    map: &mut [u8],
+    pad: &mut [u8],
+    journal: &mut [u32],
+    m: Now,
+    register: bool,
+) -> Aimed
     requires { ⌜ IsPad pad ⌝ }
-    ensures { λ r. ⌜ Gives (targetOf (r .target)) (ramTarget register) (Image image & Pad pad & Journal journal) m (r .now) ⌝ }
+    ensures { λ r. ⌜ Gives (targetOf (r .target)) (ramTarget register) (Image image & Map map & Pad pad & Journal journal) m (r .now) ⌝ }
 {
     if register {
-        return register_cell(image, m);
+        return register_cell(image, map, m);
     }
-    place_target(image, pad, journal, m)
+    place_target(image, map, pad, journal, m)
 }
 
 // A two-byte address, with an index or not.
-fn grom_cell(image: &[u8], pad: &[u8], m: Now, x: bool) -> Now
+fn grom_cell(image: &[u8], map: &mut [u8], pad: &[u8], m: Now, x: bool) -> Now
     requires { ⌜ IsPad pad ⌝ }
-    ensures { λ r. ⌜ Gives (cell grom (r .word)) (gromCell x) (Image image & Pad pad) m r ⌝ }
+    ensures { λ r. ⌜ Gives (cell grom (r .word)) (gromCell x) (Image image & Map map & Pad pad) m r ⌝ }
 {
-    let a = machine::grom::next_word(image, m);
-    operand::decode::indexed(image, pad, a, x, a.word)
+    let a = machine::grom::next_word(image, map, m);
+    operand::decode::indexed(image, map, pad, a, x, a.word)
 }
 
 // In RAM, or in the image.
 pub fn move_target(
     image: &[u8],
+    map: &mut [u8],
     pad: &mut [u8],
     journal: &mut [u32],
     m: Now,
@@ -102,23 +110,23 @@ pub fn move_target(
     register: bool,
 ) -> Aimed
     requires { ⌜ IsPad pad ⌝ }
-    ensures { λ r. ⌜ Gives (targetOf (r .target)) (moveTarget ram register) (Image image & Pad pad & Journal journal) m (r .now) ⌝ }
+    ensures { λ r. ⌜ Gives (targetOf (r .target)) (moveTarget ram register) (Image image & Map map & Pad pad & Journal journal) m (r .now) ⌝ }
 {
     if ram {
-        return ram_target(image, pad, journal, m, register);
+        return ram_target(image, map, pad, journal, m, register);
     }
-    let a = grom_cell(image, pad, m, false);
+    let a = grom_cell(image, map, pad, m, false);
     Aimed {
         now: a,
         target: Target::Gram(a.word),
     }
 }
 
-fn place_source(image: &[u8], pad: &mut [u8], journal: &mut [u32], m: Now) -> Drawn
+fn place_source(image: &[u8], map: &mut [u8], pad: &mut [u8], journal: &mut [u32], m: Now) -> Drawn
     requires { ⌜ IsPad pad ⌝ }
-    ensures { λ r. ⌜ Gives (originOf (r .origin)) place (Image image & Pad pad & Journal journal) m (r .now) ⌝ }
+    ensures { λ r. ⌜ Gives (originOf (r .origin)) place (Image image & Map map & Pad pad & Journal journal) m (r .now) ⌝ }
 {
-    let o = operand::decode::operand(image, pad, journal, m, 1);
+    let o = operand::decode::operand(image, map, pad, journal, m, 1);
     Drawn {
         now: operand::places::now_of(o),
         origin: origin_at(operand::places::place_of(o)),
@@ -128,6 +136,7 @@ fn place_source(image: &[u8], pad: &mut [u8], journal: &mut [u32], m: Now) -> Dr
 // A place, or the image.
 pub fn move_source(
     image: &[u8],
+    map: &mut [u8],
     pad: &mut [u8],
     journal: &mut [u32],
     m: Now,
@@ -135,12 +144,12 @@ pub fn move_source(
     x: bool,
 ) -> Drawn
     requires { ⌜ IsPad pad ⌝ }
-    ensures { λ r. ⌜ Gives (originOf (r .origin)) (moveSource operand x) (Image image & Pad pad & Journal journal) m (r .now) ⌝ }
+    ensures { λ r. ⌜ Gives (originOf (r .origin)) (moveSource operand x) (Image image & Map map & Pad pad & Journal journal) m (r .now) ⌝ }
 {
     if operand {
-        return place_source(image, pad, journal, m);
+        return place_source(image, map, pad, journal, m);
     }
-    let a = grom_cell(image, pad, m, x);
+    let a = grom_cell(image, map, pad, m, x);
     Drawn {
         now: a,
         origin: Origin::Grom(a.word),

@@ -4,17 +4,17 @@ use machine::state::Now;
 ghost use Prim.Native.Nat.{_+_, _≤_};
 ghost use Rattle.rules.specs.Instructions;
 ghost use Rattle.rules.specs.Instructions.{backRule, allRule};
-ghost use Rattle.machine.specs.Meaning.{_&_, Does, Image, IsPad, IsRegs, IsVram, Journal, Pad, Regs, Vram};
+ghost use Rattle.machine.specs.Meaning.{_&_, Does, Image, IsPad, IsRegs, IsVram, Journal, Map, Pad, Regs, Vram};
 
 const BACKDROP: usize = 7;
 
 const SCREEN: usize = 768;
 
-pub fn back(image: &[u8], regs: &mut [u8], journal: &mut [u32], m: Now) -> Now
+pub fn back(image: &[u8], map: &mut [u8], regs: &mut [u8], journal: &mut [u32], m: Now) -> Now
     requires { ⌜ IsRegs regs ⌝ }
-    ensures { λ r. ⌜ Does backRule (Image image & Regs regs & Journal journal) m r ⌝ }
+    ensures { λ r. ⌜ Does backRule (Image image & Map map & Regs regs & Journal journal) m r ⌝ }
 {
-    let b = machine::grom::next_byte(image, m);
+    let b = machine::grom::next_byte(image, map, m);
     machine::registers::poke_reg(regs, journal, b, BACKDROP, b.byte)
 }
 
@@ -36,11 +36,18 @@ fn fill(vram: &mut [u8], journal: &mut [u32], m: Now, n: usize, at: usize, b: u8
     x
 }
 
-pub fn all(image: &[u8], pad: &mut [u8], vram: &mut [u8], journal: &mut [u32], m: Now) -> Now
+pub fn all(
+    image: &[u8],
+    map: &mut [u8],
+    pad: &mut [u8],
+    vram: &mut [u8],
+    journal: &mut [u32],
+    m: Now,
+) -> Now
     requires { ⌜ IsPad pad × IsVram vram ⌝ }
-    ensures { λ r. ⌜ Does allRule (Image image & Pad pad & Vram vram & Journal journal) m r ⌝ }
+    ensures { λ r. ⌜ Does allRule (Image image & Map map & Pad pad & Vram vram & Journal journal) m r ⌝ }
 {
-    let b = machine::grom::next_byte(image, m);
+    let b = machine::grom::next_byte(image, map, m);
     let filled = fill(vram, journal, b, SCREEN, 0, b.byte);
     let row = machine::pad::poke_pad(pad, journal, filled, cells::ROW, 0);
     machine::pad::poke_pad(pad, journal, row, cells::COLUMN, 0)

@@ -8,7 +8,7 @@ ghost use mathlib.Core.Path.{_≡_};
 ghost use Rattle.rules.specs.Machine.{cpu, grom, vdp};
 ghost use Rattle.rules.specs.Operands.{cell};
 ghost use Rattle.rules.specs.Instructions.{moveCount, moveBytes, moveRule};
-ghost use Rattle.machine.specs.Meaning.{_&_, Does, Groups, Image, IsPad, IsRegs, IsVram, Journal, Pad, Regs, Vram};
+ghost use Rattle.machine.specs.Meaning.{_&_, Does, Groups, Image, IsPad, IsRegs, IsVram, Journal, Map, Pad, Regs, Vram};
 ghost use Rattle.block.specs.Meaning.{targetOf, originOf};
 
 // How many bytes a length moves: from 1 to >8000 as many, any other one.
@@ -27,6 +27,7 @@ fn move_count(l: u16) -> u16
 // From GROM to VDP RAM, in a loop of its own.
 fn grom_bytes(
     image: &[u8],
+    map: &mut [u8],
     vram: &mut [u8],
     journal: &mut [u32],
     m: Now,
@@ -35,12 +36,12 @@ fn grom_bytes(
     t: u16,
 ) -> Now
     requires { ⌜ IsVram vram ⌝ }
-    ensures { λ r. ⌜ Does (moveBytes n 0 (cell grom a) (cell vdp t)) (Image image & Vram vram & Journal journal) m r ⌝ }
+    ensures { λ r. ⌜ Does (moveBytes n 0 (cell grom a) (cell vdp t)) (Image image & Map map & Vram vram & Journal journal) m r ⌝ }
 {
     let mut x = m;
     let mut k: u16 = 0;
     while k < n {
-        x = bytes::grom_to_vdp(image, vram, journal, x, a, t, k);
+        x = bytes::grom_to_vdp(image, map, vram, journal, x, a, t, k);
         if x.answer != 0 {
             return x;
         }
@@ -92,6 +93,7 @@ fn vdp_bytes(vram: &mut [u8], journal: &mut [u32], m: Now, n: u16, a: u16, t: u1
 // Any other way.
 fn any_bytes(
     image: &mut [u8],
+    map: &mut [u8],
     pad: &mut [u8],
     vram: &mut [u8],
     regs: &mut [u8],
@@ -103,12 +105,12 @@ fn any_bytes(
     to: Target,
 ) -> Now
     requires { ⌜ IsPad pad × IsVram vram × IsRegs regs ⌝ }
-    ensures { λ r. ⌜ Does (moveBytes n 0 (originOf from) (targetOf to)) (Image image & Groups groups & Pad pad & Vram vram & Regs regs & Journal journal) m r ⌝ }
+    ensures { λ r. ⌜ Does (moveBytes n 0 (originOf from) (targetOf to)) (Image image & Map map & Groups groups & Pad pad & Vram vram & Regs regs & Journal journal) m r ⌝ }
 {
     let mut x = m;
     let mut k: u16 = 0;
     while k < n {
-        x = bytes::move_byte(image, pad, vram, regs, journal, x, groups, from, to, k);
+        x = bytes::move_byte(image, map, pad, vram, regs, journal, x, groups, from, to, k);
         if x.answer != 0 {
             return x;
         }
@@ -120,6 +122,7 @@ fn any_bytes(
 // The bytes one by one, until one is refused. What goes to VDP RAM has loops of its own, but not in a ring.
 fn move_bytes(
     image: &mut [u8],
+    map: &mut [u8],
     pad: &mut [u8],
     vram: &mut [u8],
     regs: &mut [u8],
@@ -131,24 +134,25 @@ fn move_bytes(
     to: Target,
 ) -> Now
     requires { ⌜ IsPad pad × IsVram vram × IsRegs regs ⌝ }
-    ensures { λ r. ⌜ Does (moveBytes n 0 (originOf from) (targetOf to)) (Image image & Groups groups & Pad pad & Vram vram & Regs regs & Journal journal) m r ⌝ }
+    ensures { λ r. ⌜ Does (moveBytes n 0 (originOf from) (targetOf to)) (Image image & Map map & Groups groups & Pad pad & Vram vram & Regs regs & Journal journal) m r ⌝ }
 {
     let book = m.book;
     if !book.ring {
         if let Target::Video(t) = to {
             match from {
-                Origin::Grom(a) => return grom_bytes(image, vram, journal, m, n, a, t),
+                Origin::Grom(a) => return grom_bytes(image, map, vram, journal, m, n, a, t),
                 Origin::Cpu(a) => return pad_bytes(pad, vram, journal, m, n, a, t),
                 Origin::Vdp(a) => return vdp_bytes(vram, journal, m, n, a, t),
             }
         }
     }
-    any_bytes(image, pad, vram, regs, journal, m, groups, n, from, to)
+    any_bytes(image, map, pad, vram, regs, journal, m, groups, n, from, to)
 }
 
 // By the low five bits of the opcode: 4 to RAM, 3 a register, 2 a source operand, 1 an index, 0 an immediate length.
 pub fn move_block(
     image: &mut [u8],
+    map: &mut [u8],
     pad: &mut [u8],
     vram: &mut [u8],
     regs: &mut [u8],
@@ -158,22 +162,23 @@ pub fn move_block(
     bits: u8,
 ) -> Now
     requires { ⌜ IsPad pad × IsVram vram × IsRegs regs ⌝ }
-    ensures { λ r. ⌜ Does (moveRule bits) (Image image & Groups groups & Pad pad & Vram vram & Regs regs & Journal journal) m r ⌝ }
+    ensures { λ r. ⌜ Does (moveRule bits) (Image image & Map map & Groups groups & Pad pad & Vram vram & Regs regs & Journal journal) m r ⌝ }
 {
     let imm = number::bits::bit(0, bits);
     let x = number::bits::bit(1, bits);
     let placed = number::bits::bit(2, bits);
     let register = number::bits::bit(3, bits);
     let ram = number::bits::bit(4, bits);
-    let l = operand::values::source(image, pad, vram, journal, m, imm, true);
-    let to = ends::move_target(image, pad, journal, l, ram, register);
-    let from = ends::move_source(image, pad, journal, to.now, placed, x);
+    let l = operand::values::source(image, map, pad, vram, journal, m, imm, true);
+    let to = ends::move_target(image, map, pad, journal, l, ram, register);
+    let from = ends::move_source(image, map, pad, journal, to.now, placed, x);
     let pushed = operand::stacks::push_pc(pad, journal, from.now);
     let origin = from.origin;
     let target = to.target;
     let count = move_count(l.word);
     let moved = move_bytes(
         image,
+        map,
         pad,
         vram,
         regs,

@@ -7,13 +7,13 @@ use operand::status;
 ghost use Prim.Native.Nat.{_<_};
 ghost use Rattle.rules.specs.Coincidence;
 ghost use Rattle.rules.specs.Coincidence.{lookUp, coincRule};
-ghost use Rattle.machine.specs.Meaning.{_&_, Does, Gives, Image, IsPad, IsVram, Journal, Pad, Vram};
+ghost use Rattle.machine.specs.Meaning.{_&_, Does, Gives, Image, IsPad, IsVram, Journal, Map, Pad, Vram};
 
 // At most 7, also of a machine that has refused it: a shift by it is always sound.
-fn granularity(image: &[u8], m: Now) -> Now
-    ensures { λ r. ⌜ (r .word < 8) × Gives (r .word) Coincidence.granularity (Image image) m r ⌝ }
+fn granularity(image: &[u8], map: &mut [u8], m: Now) -> Now
+    ensures { λ r. ⌜ (r .word < 8) × Gives (r .word) Coincidence.granularity (Image image & Map map) m r ⌝ }
 {
-    let g = machine::grom::next_byte(image, m);
+    let g = machine::grom::next_byte(image, map, m);
     let fine = machine::state::need(g, g.byte <= 7, Why::TooCoarse);
     let low = g.byte as u16 % 8;
     machine::state::give_word(fine, low)
@@ -22,6 +22,7 @@ fn granularity(image: &[u8], m: Now) -> Now
 // pc stands on the stack while the table is read and the condition stored.
 fn look_up(
     image: &[u8],
+    map: &mut [u8],
     pad: &mut [u8],
     journal: &mut [u32],
     m: Now,
@@ -31,22 +32,29 @@ fn look_up(
     b: u16,
 ) -> Now
     requires { ⌜ IsPad pad × (g < 8) ⌝ }
-    ensures { λ r. ⌜ Does (lookUp t g a b) (Image image & Pad pad & Journal journal) m r ⌝ }
+    ensures { λ r. ⌜ Does (lookUp t g a b) (Image image & Map map & Pad pad & Journal journal) m r ⌝ }
 {
     let pushed = stacks::push_pc(pad, journal, m);
-    let found = table::in_table(image, pushed, t, g, a, b);
+    let found = table::in_table(image, map, pushed, t, g, a, b);
     let stored = status::set_condition(pad, journal, found.now, found.met);
     stacks::pop_pc(pad, journal, stored)
 }
 
 // The destination is read before the source.
-pub fn coinc(image: &[u8], pad: &mut [u8], vram: &[u8], journal: &mut [u32], m: Now) -> Now
+pub fn coinc(
+    image: &[u8],
+    map: &mut [u8],
+    pad: &mut [u8],
+    vram: &[u8],
+    journal: &mut [u32],
+    m: Now,
+) -> Now
     requires { ⌜ IsPad pad × IsVram vram ⌝ }
-    ensures { λ r. ⌜ Does coincRule (Image image & Pad pad & Vram vram & Journal journal) m r ⌝ }
+    ensures { λ r. ⌜ Does coincRule (Image image & Map map & Pad pad & Vram vram & Journal journal) m r ⌝ }
 {
-    let a = operand::values::operand_value(image, pad, vram, journal, m, true);
-    let b = operand::values::operand_value(image, pad, vram, journal, a, true);
-    let g = granularity(image, b);
-    let t = machine::grom::next_word(image, g);
-    look_up(image, pad, journal, t, t.word, g.word, a.word, b.word)
+    let a = operand::values::operand_value(image, map, pad, vram, journal, m, true);
+    let b = operand::values::operand_value(image, map, pad, vram, journal, a, true);
+    let g = granularity(image, map, b);
+    let t = machine::grom::next_word(image, map, g);
+    look_up(image, map, pad, journal, t, t.word, g.word, a.word, b.word)
 }

@@ -6,7 +6,7 @@ use Prim.Native.Nat.{ℕ, suc, _+_, _-_, _≤_, _<_}
 use lib.ListN.{length, take, drop}
 use denote.Ref.{now}
 use Rattle.bytes.specs.Bytes.{indexOf}
-use Rattle.machine.specs.Meaning.{Lent, Parts, Rest, unseenAll}
+use Rattle.machine.specs.Meaning.{Lent, Parts, Rest, unmapped}
 use Rattle.rules.specs.Machine.{State}
 use Rattle.bench.specs.Meaning.{returnedBy, standsAt, lentTo}
 use Rattle.bench.specs.declared.at.At.{At}
@@ -43,7 +43,7 @@ pub record Obeyed (k : ℕ) (l : lines.Line) (s s₁ : State) (buffer : List ℕ
 -- as a contract has it, of the parts that are lent, a lent buffer, and where the machine stands
 abbrev pub Obeys : ℕ → lines.Line → (Parts → Parts) → Lent → At → Stand → Type 0
 Obeys k l parts out at r =
-    (rest : Rest (parts unseenAll)) → Obeyed k l (lentTo (parts unseenAll) rest at) (standing (parts unseenAll) rest (r .at)) (now (out .exit)) r
+    (rest : Rest (parts unmapped)) → Obeyed k l (lentTo (parts unmapped) rest at) (standing (parts unmapped) rest (r .at)) (now (out .exit)) r
 
 -- ---- what a run prints
 
@@ -140,8 +140,8 @@ pub record Spoken (ended : Bool) (p : Point) (good : Bool) (q : Point) : Type 0 
 abbrev pub Between : (Point → Point → Type 0) → List ℕ → Place → (Parts → Parts) → Place → Type 0
 Between R text p parts q =
     Onward text p q
-    × ((rest : Rest (parts unseenAll)) → R (point (p .number) (drop (p .from) text) (lentTo (parts unseenAll) rest (p .at)))
-    (point (q .number) (drop (q .from) text) (standing (parts unseenAll) rest (q .at))))
+    × ((rest : Rest (parts unmapped)) → R (point (p .number) (drop (p .from) text) (lentTo (parts unmapped) rest (p .at)))
+    (point (q .number) (drop (q .from) text) (standing (parts unmapped) rest (q .at))))
 
 abbrev pub Turns : Bool → Lent → Place → (Parts → Parts) → Lent → Turn → Type 0
 Turns ended text p parts out r = Between (λ x y. Turned ended x y (now (out .exit)) r) (now (text .entry)) p parts (r .place)

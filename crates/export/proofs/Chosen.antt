@@ -12,6 +12,7 @@ use Rattle.rules.specs.Rules.{Out, got, stopped}
 use Rattle.rules.specs.Sound.{Source}
 use Rattle.rules.specs.Calls.{Way, instruction, fits, Reply, done, refused, left, attempt, settle, fitStep, step, stepStores, Report, report, onto, steps, run}
 use Rattle.rules.specs.Calls.{Find, found, lost, scan, backTo, fitBack, stepBack}
+use Rattle.rules.specs.Reads.{mapFits, mappedRun}
 use Rattle.rules.proofs.Stores.{memOf, groups-after, ring-after}
 use Rattle.rules.proofs.Steps.{Tried, early, late, tried}
 use Rattle.rules.proofs.Fits.{fits-used, step-cases}
@@ -61,6 +62,16 @@ ran n s = go (fits (s .mem))
 
 pub of-run : (n : ℕ) {s : State} {x : Returned runs.Report} → Tells reported (run n) s x → (x .result .at .writable, x .result .at .ring) ≡ chosen (s .mem)
 of-run n {s} h = ap (λ (r : Report). chosen (r .end .mem)) (h .is) ∙ ran n s
+
+-- with a map it is a run, or nothing at all
+pub of-mapped : (n : ℕ) (z : List ℕ) {s : State} {x : Returned runs.Report} → Tells reported (mappedRun n z) s x
+    → (x .result .at .writable, x .result .at .ring) ≡ chosen (s .mem)
+unfolding mappedRun
+of-mapped n z {s} h = ap (λ (r : Report). chosen (r .end .mem)) (h .is) ∙ go (mapFits z s)
+  where
+    go : (b : Bool) → chosen ((pick b (run n s) (report (answerFor wrongLength) 0 0 s)) .end .mem) ≡ chosen (s .mem)
+    go true = ran n s
+    go false = refl
 
 pub of-step : (w : Way) {s : State} {x : Returned walk.Reply} → Tells told (stepping w) s x → (x .result .at .writable, x .result .at .ring) ≡ chosen (s .mem)
 of-step w {s} h = ap (λ (t : State). chosen (t .mem)) (leads h) ∙ stepped w s

@@ -1,4 +1,5 @@
 pub mod Dumps
+pub mod Mapped
 pub mod Meaning
 pub mod Ticks
 pub mod Who

@@ -9,7 +9,7 @@ use denote.Ref.{now}
 use Rattle.rules.specs.Machine.{pick, State}
 use Rattle.rules.specs.Answers.{saying}
 use Rattle.rules.specs.Calls as calls
-use Rattle.machine.specs.Meaning.{Lent, Parts, unseenAll}
+use Rattle.machine.specs.Meaning.{Lent, Parts, unmapped}
 use Rattle.bench.specs.declared.at.At.{At}
 use Rattle.bench.specs.Meaning.{Returned, standsAt, Outcome, stepping, backing, Returns}
 
@@ -39,7 +39,7 @@ Flagged out = getD out 6 0 ≤ 1
 -- an address, the used words, the mode, the place, the writable groups and the source flag go in; the answer and `out` are what the rules say of the parts lent
 abbrev pub Hears : (State → calls.Report) → (Parts → Parts) → ℕ → ℕ → ℕ → ℕ → ℕ → ℕ → ℕ → Lent → Type 0
 Hears f parts pc used ring place w source answer out =
-    Flagged (now (out .exit)) × Returns (heard ring w) f (parts unseenAll) (stands pc used ring place w source) (record { answer = answer; out = now (out .exit) })
+    Flagged (now (out .exit)) × Returns (heard ring w) f (parts unmapped) (stands pc used ring place w source) (record { answer = answer; out = now (out .exit) })
 
 -- a reply as a report: one step where it was done, none where it was refused
 abbrev pub tallied : calls.Reply → ℕ → ℕ → calls.Report

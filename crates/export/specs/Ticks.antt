@@ -5,7 +5,7 @@ use denote.Ref.{RefT, now}
 use denote.Triple.Both.{Both}
 use Rattle.rules.specs.Machine.{State}
 use Rattle.rules.specs.Calls.{Report}
-use Rattle.machine.specs.Meaning.{Lent, Parts, unseenAll}
+use Rattle.machine.specs.Meaning.{Lent, Parts, unmapped}
 use Rattle.bench.specs.Meaning.{Returned, ticking, Returns}
 use Rattle.export.specs.Meaning.{stands, Numbers, heard, Flagged, counted}
 
@@ -25,5 +25,5 @@ oneTick o s = record { report = counted (ticking o s .outcome); sent = ticking o
 abbrev pub HearsTick : (Parts → Parts) → ℕ → ℕ → ℕ → ℕ → ℕ → ℕ → Lent → ℕ → Both (RefT ℕ) (RefT ℕ) → Lent → Type 0
 HearsTick parts pc used ring place w source output answer sent out =
     Flagged (now (out .exit))
-    × Returns (sounded ring w (now (sent .exit)) (now (output .exit))) (oneTick (now (output .entry))) (parts unseenAll)
+    × Returns (sounded ring w (now (sent .exit)) (now (output .exit))) (oneTick (now (output .entry))) (parts unmapped)
     (stands pc used ring place w source) (record { answer = answer; out = now (out .exit) })

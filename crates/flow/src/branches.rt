@@ -6,7 +6,7 @@ use operand::status;
 ghost use mathlib.Core.Path.{_≡_};
 ghost use Rattle.rules.specs.Instructions;
 ghost use Rattle.rules.specs.Instructions.{jumpInGroup, jumpIf, branchRule, longRule, callRule, rtnRule, rtncRule};
-ghost use Rattle.machine.specs.Meaning.{_&_, Does, Image, IsPad, Journal, Nothing, Pad};
+ghost use Rattle.machine.specs.Meaning.{_&_, Does, Image, IsPad, Journal, Map, Nothing, Pad};
 
 // To 13 bits within the group of pc.
 pub fn jump_in_group(m: Now, a: u16) -> Now
@@ -37,6 +37,7 @@ fn taken(set: bool, condition: bool) -> bool
 
 pub fn branch(
     image: &[u8],
+    map: &mut [u8],
     pad: &mut [u8],
     journal: &mut [u32],
     m: Now,
@@ -44,9 +45,9 @@ pub fn branch(
     upper: u8,
 ) -> Now
     requires { ⌜ IsPad pad ⌝ }
-    ensures { λ r. ⌜ Does (branchRule set upper) (Image image & Pad pad & Journal journal) m r ⌝ }
+    ensures { λ r. ⌜ Does (branchRule set upper) (Image image & Map map & Pad pad & Journal journal) m r ⌝ }
 {
-    let lower = machine::grom::next_byte(image, m);
+    let lower = machine::grom::next_byte(image, map, m);
     let s = machine::pad::peek_pad(pad, lower, cells::STATUS);
     let condition = number::bits::bit(5, s.byte);
     let target = number::words::word_of(upper, lower.byte);
@@ -54,20 +55,20 @@ pub fn branch(
     status::set_condition(pad, journal, jumped, false)
 }
 
-pub fn long(image: &[u8], pad: &mut [u8], journal: &mut [u32], m: Now) -> Now
+pub fn long(image: &[u8], map: &mut [u8], pad: &mut [u8], journal: &mut [u32], m: Now) -> Now
     requires { ⌜ IsPad pad ⌝ }
-    ensures { λ r. ⌜ Does longRule (Image image & Pad pad & Journal journal) m r ⌝ }
+    ensures { λ r. ⌜ Does longRule (Image image & Map map & Pad pad & Journal journal) m r ⌝ }
 {
-    let a = machine::grom::next_word(image, m);
+    let a = machine::grom::next_word(image, map, m);
     let jumped = machine::state::jump(a, a.word);
     status::set_condition(pad, journal, jumped, false)
 }
 
-pub fn call(image: &[u8], pad: &mut [u8], journal: &mut [u32], m: Now) -> Now
+pub fn call(image: &[u8], map: &mut [u8], pad: &mut [u8], journal: &mut [u32], m: Now) -> Now
     requires { ⌜ IsPad pad ⌝ }
-    ensures { λ r. ⌜ Does callRule (Image image & Pad pad & Journal journal) m r ⌝ }
+    ensures { λ r. ⌜ Does callRule (Image image & Map map & Pad pad & Journal journal) m r ⌝ }
 {
-    let a = machine::grom::next_word(image, m);
+    let a = machine::grom::next_word(image, map, m);
     let pushed = stacks::push_pc(pad, journal, a);
     let jumped = machine::state::jump(pushed, a.word);
     status::set_condition(pad, journal, jumped, false)

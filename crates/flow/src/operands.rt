@@ -10,11 +10,12 @@ ghost use mathlib.Core.Bool.{false};
 ghost use Rattle.rules.specs.Machine.{pick};
 ghost use Rattle.rules.specs.Arithmetic.{extended};
 ghost use Rattle.rules.specs.Instructions.{pushRule, caseRule, fetchRule};
-ghost use Rattle.machine.specs.Meaning.{_&_, Does, Image, IsPad, IsVram, Journal, Pad, Vram};
+ghost use Rattle.machine.specs.Meaning.{_&_, Does, Image, IsPad, IsVram, Journal, Map, Pad, Vram};
 
 // The low byte onto the data stack.
 pub fn push(
     image: &[u8],
+    map: &mut [u8],
     pad: &mut [u8],
     vram: &[u8],
     journal: &mut [u32],
@@ -22,9 +23,9 @@ pub fn push(
     wide: bool,
 ) -> Now
     requires { ⌜ IsPad pad × IsVram vram ⌝ }
-    ensures { λ r. ⌜ Does (pushRule wide) (Image image & Pad pad & Vram vram & Journal journal) m r ⌝ }
+    ensures { λ r. ⌜ Does (pushRule wide) (Image image & Map map & Pad pad & Vram vram & Journal journal) m r ⌝ }
 {
-    let v = operand::values::operand_value(image, pad, vram, journal, m, wide);
+    let v = operand::values::operand_value(image, map, pad, vram, journal, m, wide);
     let p = machine::pad::peek_pad(pad, v, cells::DATA_POINTER);
     let up = p.byte as u16 + 1;
     let sound = machine::state::need(p, operand::decode::on_data_stack(up), Why::OffStack);
@@ -38,6 +39,7 @@ pub fn push(
 // Twice the value further on, within the group.
 pub fn case(
     image: &[u8],
+    map: &mut [u8],
     pad: &mut [u8],
     vram: &[u8],
     journal: &mut [u32],
@@ -45,9 +47,9 @@ pub fn case(
     wide: bool,
 ) -> Now
     requires { ⌜ IsPad pad × IsVram vram ⌝ }
-    ensures { λ r. ⌜ Does (caseRule wide) (Image image & Pad pad & Vram vram & Journal journal) m r ⌝ }
+    ensures { λ r. ⌜ Does (caseRule wide) (Image image & Map map & Pad pad & Vram vram & Journal journal) m r ⌝ }
 {
-    let v = operand::values::operand_value(image, pad, vram, journal, m, wide);
+    let v = operand::values::operand_value(image, map, pad, vram, journal, m, wide);
     let signed = number::sums::extended(wide, v.word);
     let target = number::addresses::case_target(v.pc, signed);
     let jumped = machine::state::jump(v, target);
@@ -68,6 +70,7 @@ fn fetched(wide: bool, b: u8) -> u16
 // The byte that the top of the subroutine stack names, and that word up by 1. pc is left in the slot above it.
 pub fn fetch(
     image: &[u8],
+    map: &mut [u8],
     pad: &mut [u8],
     vram: &mut [u8],
     journal: &mut [u32],
@@ -75,9 +78,9 @@ pub fn fetch(
     wide: bool,
 ) -> Now
     requires { ⌜ IsPad pad × IsVram vram ⌝ }
-    ensures { λ r. ⌜ Does (fetchRule wide) (Image image & Pad pad & Vram vram & Journal journal) m r ⌝ }
+    ensures { λ r. ⌜ Does (fetchRule wide) (Image image & Map map & Pad pad & Vram vram & Journal journal) m r ⌝ }
 {
-    let target = read_target(image, pad, vram, journal, m, wide);
+    let target = read_target(image, map, pad, vram, journal, m, wide);
     let read = target.now;
     let place = target.place;
     let old = machine::pad::peek_pad(pad, read, cells::SUB_POINTER);
@@ -85,7 +88,7 @@ pub fn fetch(
     let back = machine::pad::poke_pad(pad, journal, pushed, cells::SUB_POINTER, old.byte);
     let at = old.byte as usize;
     let top = machine::pad::peek_pad_word(pad, back, at);
-    let b = machine::grom::grom_byte(image, top, top.word);
+    let b = machine::grom::grom_byte(image, map, top, top.word);
     let next = number::addresses::plus(top.word, 1);
     let raised = machine::pad::poke_pad_word(pad, journal, b, at, next);
     operand::values::result(

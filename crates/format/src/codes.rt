@@ -10,7 +10,7 @@ ghost use Rattle.rules.specs.Rules.{give};
 ghost use Rattle.rules.specs.Format;
 ghost use Rattle.rules.specs.Format.{on, count, openBlock, closeBlock, repeatBlock, blockTurn};
 ghost use Rattle.rules.specs.Format.{endInside, endOutside, endCode, gromBias, operandBias, lastRow, codeRule, fmtRule};
-ghost use Rattle.machine.specs.Meaning.{_&_, Does, Image, IsPad, IsVram, Journal, Nothing, Pad, Vram};
+ghost use Rattle.machine.specs.Meaning.{_&_, Does, Image, IsPad, IsVram, Journal, Map, Nothing, Pad, Vram};
 ghost use Rattle.format.specs.Meaning.{Turns};
 
 const MOST_CODES: u16 = 16384;
@@ -101,6 +101,7 @@ fn block_turn(
 
 fn end_inside(
     image: &[u8],
+    map: &mut [u8],
     pad: &mut [u8],
     journal: &mut [u32],
     m: Now,
@@ -108,9 +109,9 @@ fn end_inside(
     blocks: u16,
 ) -> Turn
     requires { ⌜ IsPad pad × (0 < blocks) ⌝ }
-    ensures { λ r. ⌜ (r .blocks ≤ blocks + 1) × Turns (endInside bias blocks) (Image image & Pad pad & Journal journal) m r ⌝ }
+    ensures { λ r. ⌜ (r .blocks ≤ blocks + 1) × Turns (endInside bias blocks) (Image image & Map map & Pad pad & Journal journal) m r ⌝ }
 {
-    let a = machine::grom::next_word(image, m);
+    let a = machine::grom::next_word(image, map, m);
     let p = machine::pad::peek_pad(pad, a, cells::SUB_POINTER);
     let at = p.byte as usize;
     let n = machine::pad::peek_pad(pad, p, at);
@@ -134,6 +135,7 @@ fn end_outside(pad: &mut [u8], journal: &mut [u32], m: Now) -> Turn
 
 fn end_code(
     image: &[u8],
+    map: &mut [u8],
     pad: &mut [u8],
     journal: &mut [u32],
     m: Now,
@@ -141,28 +143,35 @@ fn end_code(
     blocks: u16,
 ) -> Turn
     requires { ⌜ IsPad pad ⌝ }
-    ensures { λ r. ⌜ (r .blocks ≤ blocks + 1) × Turns (endCode bias blocks) (Image image & Pad pad & Journal journal) m r ⌝ }
+    ensures { λ r. ⌜ (r .blocks ≤ blocks + 1) × Turns (endCode bias blocks) (Image image & Map map & Pad pad & Journal journal) m r ⌝ }
 {
     if blocks == 0 {
         return end_outside(pad, journal, m);
     }
-    end_inside(image, pad, journal, m, bias, blocks)
+    end_inside(image, map, pad, journal, m, bias, blocks)
 }
 
 // ---- the bias
 
-fn grom_bias(image: &[u8], m: Now, blocks: u16) -> Turn
-    ensures { λ r. ⌜ (r .blocks ≤ blocks + 1) × Turns (gromBias blocks) (Image image) m r ⌝ }
+fn grom_bias(image: &[u8], map: &mut [u8], m: Now, blocks: u16) -> Turn
+    ensures { λ r. ⌜ (r .blocks ≤ blocks + 1) × Turns (gromBias blocks) (Image image & Map map) m r ⌝ }
 {
-    let b = machine::grom::next_byte(image, m);
+    let b = machine::grom::next_byte(image, map, m);
     go_on(b, b.byte, blocks)
 }
 
-fn operand_bias(image: &[u8], pad: &mut [u8], journal: &mut [u32], m: Now, blocks: u16) -> Turn
+fn operand_bias(
+    image: &[u8],
+    map: &mut [u8],
+    pad: &mut [u8],
+    journal: &mut [u32],
+    m: Now,
+    blocks: u16,
+) -> Turn
     requires { ⌜ IsPad pad ⌝ }
-    ensures { λ r. ⌜ (r .blocks ≤ blocks + 1) × Turns (operandBias blocks) (Image image & Pad pad & Journal journal) m r ⌝ }
+    ensures { λ r. ⌜ (r .blocks ≤ blocks + 1) × Turns (operandBias blocks) (Image image & Map map & Pad pad & Journal journal) m r ⌝ }
 {
-    let a = text::cpu_operand(image, pad, journal, m);
+    let a = text::cpu_operand(image, map, pad, journal, m);
     let at = a.word as usize;
     let b = machine::pad::peek_pad(pad, a, at);
     go_on(b, b.byte, blocks)
@@ -181,6 +190,7 @@ fn count_of(c: u8) -> u16
 // Text, below >80: a step of 1 goes across, one of 32 down.
 fn text_code(
     image: &[u8],
+    map: &mut [u8],
     pad: &mut [u8],
     vram: &mut [u8],
     journal: &mut [u32],
@@ -190,28 +200,29 @@ fn text_code(
     c: u8,
 ) -> Turn
     requires { ⌜ IsPad pad × IsVram vram × (c < 0x80) ⌝ }
-    ensures { λ r. ⌜ (r .blocks ≤ blocks + 1) × Turns (codeRule bias blocks c) (Image image & Pad pad & Vram vram & Journal journal) m r ⌝ }
+    ensures { λ r. ⌜ (r .blocks ≤ blocks + 1) × Turns (codeRule bias blocks c) (Image image & Map map & Pad pad & Vram vram & Journal journal) m r ⌝ }
 {
     let n = count_of(c);
     if c < 0x20 {
-        let across = text::text(image, pad, vram, journal, m, n, 1, bias);
+        let across = text::text(image, map, pad, vram, journal, m, n, 1, bias);
         return go_on(across, bias, blocks);
     }
     if c < 0x40 {
-        let down = text::text(image, pad, vram, journal, m, n, 32, bias);
+        let down = text::text(image, map, pad, vram, journal, m, n, 32, bias);
         return go_on(down, bias, blocks);
     }
     if c < 0x60 {
-        let across = text::repeat_text(image, pad, vram, journal, m, n, 1, bias);
+        let across = text::repeat_text(image, map, pad, vram, journal, m, n, 1, bias);
         return go_on(across, bias, blocks);
     }
-    let down = text::repeat_text(image, pad, vram, journal, m, n, 32, bias);
+    let down = text::repeat_text(image, map, pad, vram, journal, m, n, 32, bias);
     go_on(down, bias, blocks)
 }
 
 // A code of the last row, from >E0 up.
 fn last_row(
     image: &[u8],
+    map: &mut [u8],
     pad: &mut [u8],
     vram: &mut [u8],
     journal: &mut [u32],
@@ -221,31 +232,32 @@ fn last_row(
     c: u8,
 ) -> Turn
     requires { ⌜ IsPad pad × IsVram vram ⌝ }
-    ensures { λ r. ⌜ (r .blocks ≤ blocks + 1) × Turns (lastRow bias blocks c) (Image image & Pad pad & Vram vram & Journal journal) m r ⌝ }
+    ensures { λ r. ⌜ (r .blocks ≤ blocks + 1) × Turns (lastRow bias blocks c) (Image image & Map map & Pad pad & Vram vram & Journal journal) m r ⌝ }
 {
     if c < 0xFB {
-        let shown = text::operand_text(image, pad, vram, journal, m, count_of(c), bias);
+        let shown = text::operand_text(image, map, pad, vram, journal, m, count_of(c), bias);
         return go_on(shown, bias, blocks);
     }
     if c < 0xFC {
-        return end_code(image, pad, journal, m, bias, blocks);
+        return end_code(image, map, pad, journal, m, bias, blocks);
     }
     if c < 0xFD {
-        return grom_bias(image, m, blocks);
+        return grom_bias(image, map, m, blocks);
     }
     if c < 0xFE {
-        return operand_bias(image, pad, journal, m, blocks);
+        return operand_bias(image, map, pad, journal, m, blocks);
     }
     if c < 0xFF {
-        let row = cursor::cursor_code(image, pad, journal, m, cells::ROW);
+        let row = cursor::cursor_code(image, map, pad, journal, m, cells::ROW);
         return go_on(row, bias, blocks);
     }
-    let column = cursor::cursor_code(image, pad, journal, m, cells::COLUMN);
+    let column = cursor::cursor_code(image, map, pad, journal, m, cells::COLUMN);
     go_on(column, bias, blocks)
 }
 
 fn by_code(
     image: &[u8],
+    map: &mut [u8],
     pad: &mut [u8],
     vram: &mut [u8],
     journal: &mut [u32],
@@ -255,11 +267,11 @@ fn by_code(
     c: u8,
 ) -> Turn
     requires { ⌜ IsPad pad × IsVram vram × (blocks ≤ 16384) ⌝ }
-    ensures { λ r. ⌜ (r .blocks ≤ blocks + 1) × Turns (codeRule bias blocks c) (Image image & Pad pad & Vram vram & Journal journal) m r ⌝ }
+    ensures { λ r. ⌜ (r .blocks ≤ blocks + 1) × Turns (codeRule bias blocks c) (Image image & Map map & Pad pad & Vram vram & Journal journal) m r ⌝ }
 {
     let n = count_of(c);
     if c < 0x80 {
-        return text_code(image, pad, vram, journal, m, bias, blocks, c);
+        return text_code(image, map, pad, vram, journal, m, bias, blocks, c);
     }
     if c < 0xA0 {
         let across = cursor::skip(pad, journal, m, n);
@@ -273,11 +285,12 @@ fn by_code(
     if c < 0xE0 {
         return open_block(pad, journal, m, n, bias, blocks);
     }
-    last_row(image, pad, vram, journal, m, bias, blocks, c)
+    last_row(image, map, pad, vram, journal, m, bias, blocks, c)
 }
 
 fn code(
     image: &[u8],
+    map: &mut [u8],
     pad: &mut [u8],
     vram: &mut [u8],
     journal: &mut [u32],
@@ -286,23 +299,30 @@ fn code(
     blocks: u16,
 ) -> Turn
     requires { ⌜ IsPad pad × IsVram vram × (blocks ≤ 16384) ⌝ }
-    ensures { λ r. ⌜ (r .blocks ≤ blocks + 1) × Turns (Format.code bias blocks) (Image image & Pad pad & Vram vram & Journal journal) m r ⌝ }
+    ensures { λ r. ⌜ (r .blocks ≤ blocks + 1) × Turns (Format.code bias blocks) (Image image & Map map & Pad pad & Vram vram & Journal journal) m r ⌝ }
 {
-    let c = machine::grom::next_byte(image, m);
-    by_code(image, pad, vram, journal, c, bias, blocks, c.byte)
+    let c = machine::grom::next_byte(image, map, m);
+    by_code(image, map, pad, vram, journal, c, bias, blocks, c.byte)
 }
 
 // At most 16,384 codes: the next is refused before it is read.
-pub fn format(image: &[u8], pad: &mut [u8], vram: &mut [u8], journal: &mut [u32], m: Now) -> Now
+pub fn format(
+    image: &[u8],
+    map: &mut [u8],
+    pad: &mut [u8],
+    vram: &mut [u8],
+    journal: &mut [u32],
+    m: Now,
+) -> Now
     requires { ⌜ IsPad pad × IsVram vram ⌝ }
-    ensures { λ r. ⌜ Does fmtRule (Image image & Pad pad & Vram vram & Journal journal) m r ⌝ }
+    ensures { λ r. ⌜ Does fmtRule (Image image & Map map & Pad pad & Vram vram & Journal journal) m r ⌝ }
 {
     let mut x = m;
     let mut bias: u8 = 0;
     let mut blocks: u16 = 0;
     let mut left: u16 = MOST_CODES;
     while 0 < left {
-        let t = code(image, pad, vram, journal, x, bias, blocks);
+        let t = code(image, map, pad, vram, journal, x, bias, blocks);
         x = t.now;
         if x.answer != 0 {
             return x;

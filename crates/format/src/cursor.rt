@@ -4,7 +4,7 @@ use machine::state::Now;
 ghost use Prim.Native.Nat.{_≤_};
 ghost use Rattle.rules.specs.Format;
 ghost use Rattle.rules.specs.Format.{setCursor, settleCursor, cursorCode};
-ghost use Rattle.machine.specs.Meaning.{_&_, Does, Image, IsPad, IsVram, Journal, Pad, Vram};
+ghost use Rattle.machine.specs.Meaning.{_&_, Does, Image, IsPad, IsVram, Journal, Map, Pad, Vram};
 
 fn set_cursor(pad: &mut [u8], journal: &mut [u32], m: Now, p: u16) -> Now
     requires { ⌜ IsPad pad ⌝ }
@@ -50,11 +50,18 @@ pub fn settle_cursor(pad: &mut [u8], journal: &mut [u32], m: Now) -> Now
 }
 
 // A new row or column, at `at`: both are stored before it is read.
-pub fn cursor_code(image: &[u8], pad: &mut [u8], journal: &mut [u32], m: Now, at: usize) -> Now
+pub fn cursor_code(
+    image: &[u8],
+    map: &mut [u8],
+    pad: &mut [u8],
+    journal: &mut [u32],
+    m: Now,
+    at: usize,
+) -> Now
     requires { ⌜ IsPad pad ⌝ }
-    ensures { λ r. ⌜ Does (cursorCode at) (Image image & Pad pad & Journal journal) m r ⌝ }
+    ensures { λ r. ⌜ Does (cursorCode at) (Image image & Map map & Pad pad & Journal journal) m r ⌝ }
 {
     let settled = settle_cursor(pad, journal, m);
-    let b = machine::grom::next_byte(image, settled);
+    let b = machine::grom::next_byte(image, map, settled);
     machine::pad::poke_pad(pad, journal, b, at, b.byte)
 }

@@ -7,13 +7,14 @@ ghost use mathlib.Core.Path.{_≡_};
 ghost use Prim.Native.Nat.{_≤_, _<_};
 ghost use Rattle.rules.specs.Format;
 ghost use Rattle.rules.specs.Format.{showNext, showTimes, repeatText, isCpu, cpuOperand, showCell, padText, operandText};
-ghost use Rattle.machine.specs.Meaning.{_&_, Does, Gives, Image, IsPad, IsVram, Journal, Pad, Vram};
+ghost use Rattle.machine.specs.Meaning.{_&_, Does, Gives, Image, IsPad, IsVram, Journal, Map, Pad, Vram};
 ghost use Rattle.operand.specs.Meaning.{cellOf};
 
 // ---- from GROM
 
 fn show_next(
     image: &[u8],
+    map: &mut [u8],
     pad: &mut [u8],
     vram: &mut [u8],
     journal: &mut [u32],
@@ -22,9 +23,9 @@ fn show_next(
     bias: u8,
 ) -> Now
     requires { ⌜ IsPad pad × IsVram vram × (step ≤ 32) ⌝ }
-    ensures { λ r. ⌜ Does (showNext step bias) (Image image & Pad pad & Vram vram & Journal journal) m r ⌝ }
+    ensures { λ r. ⌜ Does (showNext step bias) (Image image & Map map & Pad pad & Vram vram & Journal journal) m r ⌝ }
 {
-    let ch = machine::grom::next_byte(image, m);
+    let ch = machine::grom::next_byte(image, map, m);
     let b = std::num::wrapping_add_u8(ch.byte, bias);
     cursor::show(pad, vram, journal, ch, step, b)
 }
@@ -32,6 +33,7 @@ fn show_next(
 // n characters, until one is refused.
 pub fn text(
     image: &[u8],
+    map: &mut [u8],
     pad: &mut [u8],
     vram: &mut [u8],
     journal: &mut [u32],
@@ -41,12 +43,12 @@ pub fn text(
     bias: u8,
 ) -> Now
     requires { ⌜ IsPad pad × IsVram vram × (step ≤ 32) ⌝ }
-    ensures { λ r. ⌜ Does (Format.text n step bias) (Image image & Pad pad & Vram vram & Journal journal) m r ⌝ }
+    ensures { λ r. ⌜ Does (Format.text n step bias) (Image image & Map map & Pad pad & Vram vram & Journal journal) m r ⌝ }
 {
     let mut x = m;
     let mut left = n;
     while 0 < left {
-        x = show_next(image, pad, vram, journal, x, step, bias);
+        x = show_next(image, map, pad, vram, journal, x, step, bias);
         if x.answer != 0 {
             return x;
         }
@@ -82,6 +84,7 @@ fn show_times(
 
 pub fn repeat_text(
     image: &[u8],
+    map: &mut [u8],
     pad: &mut [u8],
     vram: &mut [u8],
     journal: &mut [u32],
@@ -91,9 +94,9 @@ pub fn repeat_text(
     bias: u8,
 ) -> Now
     requires { ⌜ IsPad pad × IsVram vram × (step ≤ 32) ⌝ }
-    ensures { λ r. ⌜ Does (repeatText n step bias) (Image image & Pad pad & Vram vram & Journal journal) m r ⌝ }
+    ensures { λ r. ⌜ Does (repeatText n step bias) (Image image & Map map & Pad pad & Vram vram & Journal journal) m r ⌝ }
 {
-    let repeated = machine::grom::next_byte(image, m);
+    let repeated = machine::grom::next_byte(image, map, m);
     let b = std::num::wrapping_add_u8(repeated.byte, bias);
     show_times(pad, vram, journal, repeated, n, step, b)
 }
@@ -119,11 +122,11 @@ fn offset_of(place: Place) -> u16
 }
 
 // The pad offset of an operand; a VDP cell is refused.
-pub fn cpu_operand(image: &[u8], pad: &mut [u8], journal: &mut [u32], m: Now) -> Now
+pub fn cpu_operand(image: &[u8], map: &mut [u8], pad: &mut [u8], journal: &mut [u32], m: Now) -> Now
     requires { ⌜ IsPad pad ⌝ }
-    ensures { λ r. ⌜ Gives (r .word) cpuOperand (Image image & Pad pad & Journal journal) m r ⌝ }
+    ensures { λ r. ⌜ Gives (r .word) cpuOperand (Image image & Map map & Pad pad & Journal journal) m r ⌝ }
 {
-    let o = operand::decode::operand(image, pad, journal, m, 1);
+    let o = operand::decode::operand(image, map, pad, journal, m, 1);
     let at = operand::places::now_of(o);
     let place = operand::places::place_of(o);
     let a = offset_of(place);
@@ -176,6 +179,7 @@ fn pad_text(
 
 pub fn operand_text(
     image: &[u8],
+    map: &mut [u8],
     pad: &mut [u8],
     vram: &mut [u8],
     journal: &mut [u32],
@@ -184,9 +188,9 @@ pub fn operand_text(
     bias: u8,
 ) -> Now
     requires { ⌜ IsPad pad × IsVram vram ⌝ }
-    ensures { λ r. ⌜ Does (operandText n bias) (Image image & Pad pad & Vram vram & Journal journal) m r ⌝ }
+    ensures { λ r. ⌜ Does (operandText n bias) (Image image & Map map & Pad pad & Vram vram & Journal journal) m r ⌝ }
 {
-    let a = cpu_operand(image, pad, journal, m);
+    let a = cpu_operand(image, map, pad, journal, m);
     let at = a.word as usize;
     pad_text(pad, vram, journal, a, n, at, bias)
 }

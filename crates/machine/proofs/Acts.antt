@@ -1,4 +1,4 @@
--- The five actions and a need, in the code's words: one law for each way out of a primitive. Every law but the first supposes an answer of 0 before.
+-- The actions and a need, in the code's words: one law for each way out of a primitive. Every law but the first supposes an answer of 0 before.
 use mathlib.Core.Path.{_≡_, refl, _∙_, ap, sym}
 use mathlib.Core.Bool.{Bool, true, false}
 use mathlib.Core.List.{List}
@@ -13,9 +13,11 @@ use Rattle.rules.specs.Machine.{Kind, cpu, vdp, register, grom, size, reach, ex
 use Rattle.rules.specs.Answers.{Why, Answer, saying, number, answerFor, offGrom, noRoom, readOnly, outside}
 use Rattle.rules.specs.Journal.{kindNumber, word, lay}
 use Rattle.rules.specs.Rules.{Rule, _>>=_, got, stopped, room, spare, perform, exec, after, valued, nextByte, gromByte, here, goto, peek, poke, need}
+use Rattle.rules.specs.Reads.{actReads, reads, readsAfter, marked}
 use Rattle.rules.proofs.Opcodes.{never-done}
+use Rattle.rules.proofs.Reading.{Blind, gives, acts, blind-marks, blind-need, blind-poke}
 use Rattle.ring.specs.declared.book.Book.{Book}
-use Rattle.machine.specs.Meaning.{outs, Stand, stand, Goes, kindOf, HasCells, reachOf, mayStore, IsNear, with}
+use Rattle.machine.specs.Meaning.{outs, Stand, stand, outOf, Goes, kindOf, HasCells, IsRam, reachOf, mayStore, IsNear, with}
 use Rattle.machine.specs.declared.memory.Memory.{Memory}
 use Rattle.machine.specs.declared.memory.Memory.the-variants.{Cpu, Vdp, Register, Grom}
 use Rattle.rules.proofs.Laws.{need-met}
@@ -24,27 +26,30 @@ use Rattle.machine.proofs.Chain.{goes, seq, by-rule, idle}
 -- ---- what has refused stays as it is
 
 pub still : {A : Type 0} {s : Stand} {r : Rule A} {v : A} → (s .answer .number ≡ 0 → ⊥) → Goes s r v s
-unfolding outs after valued
-still {s = s} h = record { is = rw (ne-eqb (s .answer .number) 0 h) }
+unfolding outs after valued readsAfter marked
+still {s = s} h = record { is = rw (ne-eqb (s .answer .number) 0 h); marks = rw (ne-eqb (s .answer .number) 0 h) }
 
 -- and its pc plays no part
-pub stays : {A : Type 0} {a : Answer} {pc pc₁ : ℕ} {m : Mem} {r : Rule A} {v : A} → (a .number ≡ 0 → ⊥) → Goes (stand a pc m) r v (stand a pc₁ m)
-unfolding outs after valued
-stays {a = a} h = record { is = rw (ne-eqb (a .number) 0 h) }
+pub stays : {A : Type 0} {a : Answer} {pc pc₁ : ℕ} {m : Mem} {y : List ℕ} {r : Rule A} {v : A} → (a .number ≡ 0 → ⊥) → Goes (stand a pc m y) r v (stand a pc₁ m y)
+unfolding outs after valued readsAfter marked
+stays {a = a} h = record { is = rw (ne-eqb (a .number) 0 h); marks = rw (ne-eqb (a .number) 0 h) }
 
 -- ---- pc
 
 pub here-is : {s : Stand} → Goes s here (s .pc) s
-unfolding outs after valued exec perform
-here-is {s = s} = go (s .answer .number) (s .answer .address) (s .pc) (s .mem)
+unfolding outs after valued exec perform actReads
+here-is {s = s} = record {
+  is = go (s .answer .number) (s .answer .address) (s .pc) (s .mem);
+  marks = blind-marks (outOf s) (s .map) (acts (λ pc m. refl) (λ v. gives));
+}
   where
-    go : (a d pc : ℕ) (m : Mem) → Goes (stand (saying a d) pc m) here pc (stand (saying a d) pc m)
-    go zero d pc m = record { is = refl }
-    go (suc a) d pc m = record { is = rw (ne-eqb (suc a) 0 (λ e. omega arith)) }
+    go : (a d pc : ℕ) (m : Mem) → valued pc (outs (saying a d) pc m) ≡ after (outs (saying a d) pc m) here
+    go zero d pc m = refl
+    go (suc a) d pc m = rw (ne-eqb (suc a) 0 (λ e. omega arith))
 
-pub jumped : {pc a : ℕ} {z : Answer} {m : Mem} → z .number ≡ 0 → a < 65536 → Goes (stand z pc m) (goto a) tt (stand z a m)
-unfolding outs after valued exec perform
-jumped h l = record { is = rw (h, mod-eq-of-lt l) }
+pub jumped : {pc a : ℕ} {z : Answer} {m : Mem} {y : List ℕ} → z .number ≡ 0 → a < 65536 → Goes (stand z pc m y) (goto a) tt (stand z a m y)
+unfolding outs after exec perform actReads
+jumped h l = goes (acts (λ pc m. refl) (λ v. gives)) (rw (h, mod-eq-of-lt l)) refl
 
 -- ---- a refusal
 
@@ -56,33 +61,34 @@ refusal why pc m = rw (ne-eqb (number why) 0 (λ e. omega (arith, never-done why
 pub need-holds : {s : Stand} {c : Bool} (why : Why) → c ≡ true → Goes s (need c why) tt s
 need-holds {c = c} why h = by-rule (need-met c why h) idle
 
-pub need-fails : {pc : ℕ} {z : Answer} {m : Mem} {c : Bool} (why : Why) → z .number ≡ 0 → c ≡ false → Goes (stand z pc m) (need c why) tt (stand (answerFor why) pc m)
+pub need-fails : {pc : ℕ} {z : Answer} {m : Mem} {y : List ℕ} {c : Bool} (why : Why) → z .number ≡ 0 → c ≡ false
+    → Goes (stand z pc m y) (need c why) tt (stand (answerFor why) pc m y)
 unfolding outs after exec need
-need-fails {pc = pc} {m = m} why h f = goes (refusal why pc m ∙ rw (h, f))
+need-fails {pc = pc} {m = m} {c = c} why h f = goes (blind-need c why) (refusal why pc m ∙ rw (h, f)) refl
 
 -- then nothing more is done, and pc plays no part
-pub refuses : {A : Type 0} {pc pc₁ : ℕ} {z : Answer} {m : Mem} {c : Bool} {v : A} {why why₁ : Why} (r : Rule A) → z .number ≡ 0 → why₁ ≡ why → c ≡ false
-    → Goes (stand z pc m) (need c why >>= (λ _. r)) v (stand (answerFor why₁) pc₁ m)
+pub refuses : {A : Type 0} {pc pc₁ : ℕ} {z : Answer} {m : Mem} {y : List ℕ} {c : Bool} {v : A} {why why₁ : Why} (r : Rule A) → z .number ≡ 0 → why₁ ≡ why → c ≡ false
+    → Goes (stand z pc m y) (need c why >>= (λ _. r)) v (stand (answerFor why₁) pc₁ m y)
 refuses {pc = pc} {why = why} r h e f = rw e (seq (need-fails {pc = pc} why h f) (stays (λ x. omega (arith, never-done why))))
 
--- ---- reading the image
+-- ---- reading the image: a byte that is there is marked
 
-module _ {pc : ℕ} {z : Answer} {m : Mem} (h : z .number ≡ 0) where
-  pub next-beyond : {v : ℕ} → length (m .image) ≤ pc → Goes (stand z pc m) nextByte v (stand (answerFor (offGrom pc)) pc m)
-  unfolding outs after valued exec perform
-  next-beyond l = record { is = rw (h, le-ltb pc (length (m .image)) l) }
+module _ {pc : ℕ} {z : Answer} {m : Mem} {y : List ℕ} (h : z .number ≡ 0) where
+  pub next-beyond : {v : ℕ} → length (m .image) ≤ pc → Goes (stand z pc m y) nextByte v (stand (answerFor (offGrom pc)) pc m y)
+  unfolding outs after valued exec perform readsAfter reads actReads marked
+  next-beyond l = record { is = rw (h, le-ltb pc (length (m .image)) l); marks = rw (h, le-ltb pc (length (m .image)) l) }
 
-  pub next-read : {v p : ℕ} → pc < length (m .image) → v ≡ getD (m .image) pc 0 → p ≡ onward pc → Goes (stand z pc m) nextByte v (stand z p m)
-  unfolding outs after valued exec perform
-  next-read l e f = record { is = rw (h, lt-ltb pc (length (m .image)) l, e, f) }
+  pub next-read : {v p : ℕ} {x : List ℕ} → pc < length (m .image) → x ≡ set y pc 1 → v ≡ getD (m .image) pc 0 → p ≡ onward pc → Goes (stand z pc m y) nextByte v (stand z p m x)
+  unfolding outs after valued exec perform readsAfter reads actReads marked
+  next-read l k e f = record { is = rw (h, lt-ltb pc (length (m .image)) l, e, f); marks = rw (h, lt-ltb pc (length (m .image)) l, k) }
 
-  pub grom-beyond : {a v : ℕ} → length (m .image) ≤ a → Goes (stand z pc m) (gromByte a) v (stand (answerFor (offGrom a)) pc m)
-  unfolding outs after valued exec perform
-  grom-beyond {a = a} l = record { is = rw (h, le-ltb a (length (m .image)) l) }
+  pub grom-beyond : {a v : ℕ} → length (m .image) ≤ a → Goes (stand z pc m y) (gromByte a) v (stand (answerFor (offGrom a)) pc m y)
+  unfolding outs after valued exec perform readsAfter reads actReads marked
+  grom-beyond {a = a} l = record { is = rw (h, le-ltb a (length (m .image)) l); marks = rw (h, le-ltb a (length (m .image)) l) }
 
-  pub grom-read : {a v : ℕ} → a < length (m .image) → v ≡ getD (m .image) a 0 → Goes (stand z pc m) (gromByte a) v (stand z pc m)
-  unfolding outs after valued exec perform
-  grom-read {a = a} l e = record { is = rw (h, lt-ltb a (length (m .image)) l, e) }
+  pub grom-read : {a v : ℕ} {x : List ℕ} → a < length (m .image) → x ≡ set y a 1 → v ≡ getD (m .image) a 0 → Goes (stand z pc m y) (gromByte a) v (stand z pc m x)
+  unfolding outs after valued exec perform readsAfter reads actReads marked
+  grom-read {a = a} l k e = record { is = rw (h, lt-ltb a (length (m .image)) l, e); marks = rw (h, lt-ltb a (length (m .image)) l, k) }
 
 -- ---- loads and stores, over the memory
 
@@ -110,6 +116,14 @@ store-with Cpu a c j d x = refl
 store-with Vdp a c j d x = refl
 store-with Register a c j d x = refl
 store-with (Grom w) a c j d x = refl
+
+-- a load of any but the image leaves the map
+blind-peek : (k : Memory) (a : ℕ) → IsRam k → Blind (peek (kindOf k) a)
+unfolding actReads
+blind-peek Cpu a h = acts (λ pc m. refl) (λ v. gives)
+blind-peek Vdp a h = acts (λ pc m. refl) (λ v. gives)
+blind-peek Register a h = acts (λ pc m. refl) (λ v. gives)
+blind-peek (Grom w) a h = absurd h
 
 -- a cell in reach is there, its address is small where it may be stored into, and so is its kind
 pub within : (k : Memory) {a q n : ℕ} → q ≡ reachOf k n → HasCells k n → a < q → a < n
@@ -142,37 +156,40 @@ module _ (k : Memory) (c j : List ℕ) (d : Book) (x : Mem) (a : ℕ) where
   may e = store-with k a c j d x ∙ e
 
 -- and the ways out
-module _ (k : Memory) (c j : List ℕ) (d : Book) (x : Mem) {a q pc : ℕ} {z : Answer} (h : z .number ≡ 0) (r : q ≡ reachOf k (length c)) where
-  pub peek-far : {n : Answer} {v : ℕ} → q ≤ a → n ≡ answerFor (outside (kindOf k) a)
-      → Goes (stand z pc (with k c j d x)) (peek (kindOf k) a) v (stand n pc (with k c j d x))
+module _ (k : Memory) (c j : List ℕ) (d : Book) (x : Mem) {y : List ℕ} {a q pc : ℕ} {z : Answer} (h : z .number ≡ 0) (r : q ≡ reachOf k (length c)) where
+  pub peek-far : {n : Answer} {v : ℕ} → IsRam k → q ≤ a → n ≡ answerFor (outside (kindOf k) a)
+      → Goes (stand z pc (with k c j d x) y) (peek (kindOf k) a) v (stand n pc (with k c j d x) y)
   unfolding outs after valued exec perform
-  peek-far {v = v} l e = record { is = rw e (ap (valued v) (refusal (outside (kindOf k) a) pc (with k c j d x)) ∙ rw (h, far k c j d x a r l)) }
+  peek-far {v = v} i l e = record {
+    is = rw e (ap (valued v) (refusal (outside (kindOf k) a) pc (with k c j d x)) ∙ rw (h, far k c j d x a r l));
+    marks = blind-marks _ y (blind-peek k a i);
+  }
 
-  pub peeked : {v : ℕ} → a < q → v ≡ getD c a 0 → Goes (stand z pc (with k c j d x)) (peek (kindOf k) a) v (stand z pc (with k c j d x))
+  pub peeked : {v : ℕ} → IsRam k → a < q → v ≡ getD c a 0 → Goes (stand z pc (with k c j d x) y) (peek (kindOf k) a) v (stand z pc (with k c j d x) y)
   unfolding outs after valued exec perform
-  peeked l e = record { is = rw (h, there k c j d x a r l, e, cells-with k c j d x) }
+  peeked i l e = record { is = rw (h, there k c j d x a r l, e, cells-with k c j d x); marks = blind-marks _ y (blind-peek k a i) }
 
   pub poke-far : {n : Answer} {b : ℕ} → q ≤ a → n ≡ answerFor (outside (kindOf k) a)
-      → Goes (stand z pc (with k c j d x)) (poke (kindOf k) a b) tt (stand n pc (with k c j d x))
+      → Goes (stand z pc (with k c j d x) y) (poke (kindOf k) a b) tt (stand n pc (with k c j d x) y)
   unfolding outs after exec perform
-  poke-far l e = goes (rw e (refusal (outside (kindOf k) a) pc (with k c j d x) ∙ rw (h, far k c j d x a r l)))
+  poke-far {b = b} l e = goes (blind-poke (kindOf k) a b) (rw e (refusal (outside (kindOf k) a) pc (with k c j d x) ∙ rw (h, far k c j d x a r l))) refl
 
   pub poke-barred : {b : ℕ} → a < q → mayStore k a ≡ false
-      → Goes (stand z pc (with k c j d x)) (poke (kindOf k) a b) tt (stand (answerFor readOnly) pc (with k c j d x))
+      → Goes (stand z pc (with k c j d x) y) (poke (kindOf k) a b) tt (stand (answerFor readOnly) pc (with k c j d x) y)
   unfolding outs after exec perform
-  poke-barred l g = goes (rw (h, there k c j d x a r l, may k c j d x a g))
+  poke-barred {b = b} l g = goes (blind-poke (kindOf k) a b) (rw (h, there k c j d x a r l, may k c j d x a g)) refl
 
   -- with room left or made, or none to be made
   pub poke-full : (j₁ : List ℕ) (d₁ : Book) {b : ℕ} → a < q → mayStore k a ≡ true
       → (room (spare (with k c j d x)) ≡ false) × (with k c j₁ d₁ x ≡ spare (with k c j d x))
-      → Goes (stand z pc (with k c j d x)) (poke (kindOf k) a b) tt (stand (answerFor noRoom) pc (with k c j₁ d₁ x))
+      → Goes (stand z pc (with k c j d x) y) (poke (kindOf k) a b) tt (stand (answerFor noRoom) pc (with k c j₁ d₁ x) y)
   unfolding outs after exec perform
-  poke-full j₁ d₁ l g s = goes (rw (h, there k c j d x a r l, may k c j d x a g, s .0, s .1))
+  poke-full j₁ d₁ {b = b} l g s = goes (blind-poke (kindOf k) a b) (rw (h, there k c j d x a r l, may k c j d x a g, s .0, s .1)) refl
 
   pub poked : (j₁ : List ℕ) (d₁ : Book) {b n w : ℕ} → a < q → mayStore k a ≡ true → b < 256 → n ≡ kindNumber (kindOf k)
       → w ≡ n * 2 ^ 29 + a * 256 + getD c a 0 → (room (spare (with k c j d x)) ≡ true) × (with k c j₁ d₁ x ≡ lay w (spare (with k c j d x)))
-      → Goes (stand z pc (with k c j d x)) (poke (kindOf k) a b) tt (stand z pc (with k (set c a b) j₁ d₁ x))
+      → Goes (stand z pc (with k c j d x) y) (poke (kindOf k) a b) tt (stand z pc (with k (set c a b) j₁ d₁ x) y)
   unfolding outs after exec perform word
   poked j₁ d₁ {b = b} {w = w} l g t i e s =
-      goes (rw (h, there k c j d x a r l, may k c j d x a g, s .0, mod-eq-of-lt t, cells-with k c j d x, ← i, ← e)
-      (ap (λ (y : Mem). got tt pc y) (sym (put-with k a b c j₁ d₁ x) ∙ ap (put (kindOf k) a b) (s .1))))
+      goes (blind-poke (kindOf k) a b) (rw (h, there k c j d x a r l, may k c j d x a g, s .0, mod-eq-of-lt t, cells-with k c j d x, ← i, ← e)
+      (ap (λ (y : Mem). got tt pc y) (sym (put-with k a b c j₁ d₁ x) ∙ ap (put (kindOf k) a b) (s .1)))) refl

@@ -1,6 +1,6 @@
 -- What the code's values say, in the words of the rules.
 use mathlib.Core.Path.{_≡_}
-use mathlib.Core.List.{List}
+use mathlib.Core.List.{List, []}
 use mathlib.Core.Bool.{Bool, true, false}
 use Prim.Native.Nat.{ℕ, _/_, _<_}
 use lib.Dec.{eqb}
@@ -9,6 +9,7 @@ use denote.Ref.{RefT, now}
 use denote.Triple.Both.{Both}
 use Rattle.rules.specs.Machine.{pick, bit, Kind, cpu, vdp, register, grom, upon, group, size, reach, areaOf, flagged, Mem, mem}
 use Rattle.rules.specs.Rules.{Rule, Deed, Out, got, stopped, then, after, valued, peek, poke}
+use Rattle.rules.specs.Reads.{readsAfter, marked}
 use Rattle.rules.specs.Answers as answers
 use Rattle.rules.specs.Answers.{Answer, saying}
 use Rattle.rules.specs.Calls as calls
@@ -46,14 +47,15 @@ whyOf OutputFull = answers.outputFull
 unfoldable pub outs : Answer → ℕ → Mem → Out (Unit {0})
 outs a pc m = pick (eqb (a .number) 0) (got tt pc m) (stopped a m)
 
--- the machine as the code has it: the answer so far, pc and the memories
+-- the machine as the code has it: the answer so far, pc and the memories, and the map of the image's bytes that were read
 pub record Stand : Type 0 where
   pub answer : Answer
   pub pc : ℕ
   pub mem : Mem
+  pub map : List ℕ
 
-abbrev pub stand : Answer → ℕ → Mem → Stand
-stand a pc m = record { answer = a; pc = pc; mem = m }
+abbrev pub stand : Answer → ℕ → Mem → List ℕ → Stand
+stand a pc m z = record { answer = a; pc = pc; mem = m; map = z }
 
 abbrev pub outOf : Stand → Out (Unit {0})
 outOf s = outs (s .answer) (s .pc) (s .mem)
@@ -69,17 +71,19 @@ memOf i w p v g j b = mem i w p v g (turned (b .ring) (b .place) j) (b .used) (b
 abbrev pub unbooked : List ℕ → ℕ → List ℕ → List ℕ → List ℕ → List ℕ → Mem
 unbooked i w p v g j = mem i w p v g j 0 0 0 false
 
--- the state beside them
-abbrev pub standing : List ℕ → ℕ → List ℕ → List ℕ → List ℕ → List ℕ → Now → Stand
-standing i w p v g j n = stand (answerOf n) (n .pc) (memOf i w p v g j (n .book))
+-- the state beside them, and the map
+abbrev pub standing : List ℕ → List ℕ → ℕ → List ℕ → List ℕ → List ℕ → List ℕ → Now → Stand
+standing i z w p v g j n = stand (answerOf n) (n .pc) (memOf i w p v g j (n .book)) z
 
--- from s the rule goes to t, and gives a
+-- from s the rule goes to t, and gives a; what it reads is marked
 pub record Goes {A : Type 0} (s : Stand) (r : Rule A) (a : A) (t : Stand) : Type 0 where
   pub is : valued a (outOf t) ≡ after (outOf s) r
+  pub marks : t .map ≡ marked (readsAfter (outOf s) r) (s .map)
 
--- what is left to do: to do r from s, it is enough to do q from t
+-- what is left to do: to do r from s, it is enough to do q from t, in the map too
 pub record Owes {A : Type 0} (s : Stand) (r : Rule A) (t : Stand) (q : Rule A) : Type 0 where
   pub is : after (outOf t) q ≡ after (outOf s) r
+  pub marks : marked (readsAfter (outOf t) q) (t .map) ≡ marked (readsAfter (outOf s) r) (s .map)
 
 -- ---- the states that the code makes
 
@@ -115,6 +119,7 @@ pub data Naming : Type 0 where
 
 pub record Parts : Type 0 where
   pub image : Part
+  pub map : Part
   pub groups : Naming
   pub pad : Part
   pub vram : Part
@@ -123,23 +128,29 @@ pub record Parts : Type 0 where
 
 -- the parts that a function is lent, by what they were and what they are: for a loop, whose invariant has the lists themselves
 abbrev pub imageFrom : List ℕ → List ℕ → Parts → Parts
-imageFrom was is l = record { image = lent was is; groups = l .groups; pad = l .pad; vram = l .vram; regs = l .regs; journal = l .journal }
+imageFrom was is l = record { image = lent was is; map = l .map; groups = l .groups; pad = l .pad; vram = l .vram; regs = l .regs; journal = l .journal }
+
+abbrev pub mapFrom : List ℕ → List ℕ → Parts → Parts
+mapFrom was is l = record { image = l .image; map = lent was is; groups = l .groups; pad = l .pad; vram = l .vram; regs = l .regs; journal = l .journal }
 
 abbrev pub padFrom : List ℕ → List ℕ → Parts → Parts
-padFrom was is l = record { image = l .image; groups = l .groups; pad = lent was is; vram = l .vram; regs = l .regs; journal = l .journal }
+padFrom was is l = record { image = l .image; map = l .map; groups = l .groups; pad = lent was is; vram = l .vram; regs = l .regs; journal = l .journal }
 
 abbrev pub vramFrom : List ℕ → List ℕ → Parts → Parts
-vramFrom was is l = record { image = l .image; groups = l .groups; pad = l .pad; vram = lent was is; regs = l .regs; journal = l .journal }
+vramFrom was is l = record { image = l .image; map = l .map; groups = l .groups; pad = l .pad; vram = lent was is; regs = l .regs; journal = l .journal }
 
 abbrev pub regsFrom : List ℕ → List ℕ → Parts → Parts
-regsFrom was is l = record { image = l .image; groups = l .groups; pad = l .pad; vram = l .vram; regs = lent was is; journal = l .journal }
+regsFrom was is l = record { image = l .image; map = l .map; groups = l .groups; pad = l .pad; vram = l .vram; regs = lent was is; journal = l .journal }
 
 abbrev pub journalFrom : List ℕ → List ℕ → Parts → Parts
-journalFrom was is l = record { image = l .image; groups = l .groups; pad = l .pad; vram = l .vram; regs = l .regs; journal = lent was is }
+journalFrom was is l = record { image = l .image; map = l .map; groups = l .groups; pad = l .pad; vram = l .vram; regs = l .regs; journal = lent was is }
 
 -- and as a contract has them: `Pad pad & Journal journal`
 abbrev pub Image : Lent → Parts → Parts
 Image s l = imageFrom (now (s .entry)) (now (s .exit)) l
+
+abbrev pub Map : Lent → Parts → Parts
+Map s l = mapFrom (now (s .entry)) (now (s .exit)) l
 
 abbrev pub Pad : Lent → Parts → Parts
 Pad s l = padFrom (now (s .entry)) (now (s .exit)) l
@@ -154,7 +165,7 @@ abbrev pub Journal : Lent → Parts → Parts
 Journal s l = journalFrom (now (s .entry)) (now (s .exit)) l
 
 abbrev pub Groups : ℕ → Parts → Parts
-Groups w l = record { image = l .image; groups = named w; pad = l .pad; vram = l .vram; regs = l .regs; journal = l .journal }
+Groups w l = record { image = l .image; map = l .map; groups = named w; pad = l .pad; vram = l .vram; regs = l .regs; journal = l .journal }
 
 abbrev pub Nothing : Parts → Parts
 Nothing l = l
@@ -164,7 +175,11 @@ abbrev pub _&_ : (Parts → Parts) → (Parts → Parts) → Parts → Parts
 _&_ f g l = f (g l)
 
 abbrev pub unseenAll : Parts
-unseenAll = record { image = unseen; groups = unnamed; pad = unseen; vram = unseen; regs = unseen; journal = unseen }
+unseenAll = record { image = unseen; map = unseen; groups = unnamed; pad = unseen; vram = unseen; regs = unseen; journal = unseen }
+
+-- the same with no map: where nothing is said of it
+abbrev pub unmapped : Parts
+unmapped = mapFrom [] [] unseenAll
 
 -- what a function does not see of a part: the list, where it is not lent
 abbrev pub Unseen : Part → Type 0
@@ -190,6 +205,7 @@ groupsIn (named w) _ = w
 -- the rest of the machine: every part that is not lent, and the groups where they are not named
 pub record Rest (q : Parts) : Type 0 where
   pub image : Unseen (q .image)
+  pub map : Unseen (q .map)
   pub groups : Unnamed (q .groups)
   pub pad : Unseen (q .pad)
   pub vram : Unseen (q .vram)
@@ -206,10 +222,10 @@ memAfter q w b =
     memOf (after′ (q .image) (w .image)) (groupsIn (q .groups) (w .groups)) (after′ (q .pad) (w .pad)) (after′ (q .vram) (w .vram)) (after′ (q .regs) (w .regs)) (after′ (q .journal) (w .journal)) b
 
 abbrev pub start : (q : Parts) → Rest q → Now → Stand
-start q w m = stand (answerOf m) (m .pc) (memBefore q w (m .book))
+start q w m = stand (answerOf m) (m .pc) (memBefore q w (m .book)) (before (q .map) (w .map))
 
 abbrev pub end : (q : Parts) → Rest q → Now → Stand
-end q w n = stand (answerOf n) (n .pc) (memAfter q w (n .book))
+end q w n = stand (answerOf n) (n .pc) (memAfter q w (n .book)) (after′ (q .map) (w .map))
 
 -- m goes in, n comes out, and a value: whatever the rest of the machine is, the rule goes from what was lent to what is left, and gives the value
 abbrev pub Gives : {A : Type 0} → A → Rule A → (Parts → Parts) → Now → Now → Type 0
@@ -225,11 +241,11 @@ Leaves r q f m n = (rest : Rest (f unseenAll)) → Owes (start (f unseenAll) res
 -- the mark of a step that began at an address, with its flag above it, is taken
 abbrev pub Marks : ℕ → (Parts → Parts) → Now → Now → Type 0
 Marks a f m n =
-    (rest : Rest (f unseenAll)) → outOf (end (f unseenAll) rest n) ≡ then (outOf (start (f unseenAll) rest m)) (λ _ pc₁ m₁. calls.takeMark a pc₁ m₁)
+    (rest : Rest (f unmapped)) → outOf (end (f unmapped) rest n) ≡ then (outOf (start (f unmapped) rest m)) (λ _ pc₁ m₁. calls.takeMark a pc₁ m₁)
 
 -- the memories become what a function makes of them, and the journal's book b becomes c
 abbrev pub Became : (Mem → Mem) → (Parts → Parts) → Book → Book → Type 0
-Became g f b c = (rest : Rest (f unseenAll)) → memAfter (f unseenAll) rest c ≡ g (memBefore (f unseenAll) rest b)
+Became g f b c = (rest : Rest (f unmapped)) → memAfter (f unmapped) rest c ≡ g (memBefore (f unmapped) rest b)
 
 -- the lengths of what is lent
 abbrev pub IsPad : RefT (List ℕ) → Type 0
@@ -258,6 +274,13 @@ HasCells (Grom w) n = Unit {0}
 
 abbrev pub IsOf : Memory → RefT (List ℕ) → Type 0
 IsOf k s = HasCells k (length (now s))
+
+-- any but the image, whose bytes are read by the map
+abbrev pub IsRam : Memory → Type 0
+IsRam Cpu = Unit {0}
+IsRam Vdp = Unit {0}
+IsRam Register = Unit {0}
+IsRam (Grom w) = ⊥
 
 -- how many of its n cells a program may reach
 abbrev pub reachOf : Memory → ℕ → ℕ
@@ -293,17 +316,17 @@ with k c j b m =
     memOf (upon (kindOf k) (m .image) (m .image) (m .image) c) (groupsOf k m) (upon (kindOf k) c (m .pad) (m .pad) (m .pad))
     (upon (kindOf k) (m .vram) c (m .vram) (m .vram)) (upon (kindOf k) (m .regs) (m .regs) c (m .regs)) j b
 
--- a byte is loaded from one of its cells: in any machine that has these
+-- a byte is loaded from one of its cells: in any machine that has these, whatever its map is
 abbrev pub Loads : Memory → ℕ → Lent → Now → Now → Type 0
 Loads k a s m n =
-    (x : Mem) → Goes (stand (answerOf m) (m .pc) (with k (now (s .entry)) (x .journal) (m .book) x)) (peek (kindOf k) a) (n .byte)
-    (stand (answerOf n) (n .pc) (with k (now (s .entry)) (x .journal) (n .book) x))
+    (x : Mem) (z : List ℕ) → Goes (stand (answerOf m) (m .pc) (with k (now (s .entry)) (x .journal) (m .book) x) z) (peek (kindOf k) a) (n .byte)
+    (stand (answerOf n) (n .pc) (with k (now (s .entry)) (x .journal) (n .book) x) z)
 
 -- a byte is stored into one
 abbrev pub Stores : Memory → ℕ → ℕ → Lent → Lent → Now → Now → Type 0
 Stores k a b s j m n =
-    (x : Mem) → Goes (stand (answerOf m) (m .pc) (with k (now (s .entry)) (now (j .entry)) (m .book) x)) (poke (kindOf k) a b) tt
-    (stand (answerOf n) (n .pc) (with k (now (s .exit)) (now (j .exit)) (n .book) x))
+    (x : Mem) (z : List ℕ) → Goes (stand (answerOf m) (m .pc) (with k (now (s .entry)) (now (j .entry)) (m .book) x) z) (poke (kindOf k) a b) tt
+    (stand (answerOf n) (n .pc) (with k (now (s .exit)) (now (j .exit)) (n .book) x) z)
 
 -- a byte is put into a cell, if there is one
 abbrev pub Puts : ℕ → ℕ → Lent → Type 0

@@ -1,5 +1,6 @@
-// The image: read at pc, which moves on, and at an address; and a journalled store into a writable group.
+// The image: read at pc, which moves on, and at an address, with 1 put into the map where a byte was read; and a journalled store into a writable group.
 use crate::answers::Why;
+use crate::journal;
 use crate::memory;
 use crate::memory::Memory;
 use crate::state;
@@ -8,10 +9,10 @@ ghost use mathlib.Core.Path.{_≡_};
 ghost use Prim.Native.Nat.{_/_};
 ghost use Rattle.rules.specs.Machine.{bit, grom, group};
 ghost use Rattle.rules.specs.Rules.{nextByte, nextWord, gromByte, poke};
-ghost use Rattle.machine.specs.Meaning.{_&_, Does, Gives, Groups, Image, Journal};
+ghost use Rattle.machine.specs.Meaning.{_&_, Does, Gives, Groups, Image, Journal, Map};
 
-pub fn next_byte(image: &[u8], m: Now) -> Now
-    ensures { λ r. ⌜ Gives (r .byte) nextByte (Image image) m r ⌝ }
+pub fn next_byte(image: &[u8], map: &mut [u8], m: Now) -> Now
+    ensures { λ r. ⌜ Gives (r .byte) nextByte (Image image & Map map) m r ⌝ }
 {
     let pc = m.pc;
     let at = pc as usize;
@@ -21,11 +22,12 @@ pub fn next_byte(image: &[u8], m: Now) -> Now
     if image.len() <= at {
         return state::refused(m, Why::OffGrom(pc));
     }
+    journal::put(map, at, 1);
     state::read(m, number::addresses::onward(pc), image[at])
 }
 
-pub fn grom_byte(image: &[u8], m: Now, a: u16) -> Now
-    ensures { λ r. ⌜ Gives (r .byte) (gromByte a) (Image image) m r ⌝ }
+pub fn grom_byte(image: &[u8], map: &mut [u8], m: Now, a: u16) -> Now
+    ensures { λ r. ⌜ Gives (r .byte) (gromByte a) (Image image & Map map) m r ⌝ }
 {
     let at = a as usize;
     if m.answer != 0 {
@@ -34,14 +36,15 @@ pub fn grom_byte(image: &[u8], m: Now, a: u16) -> Now
     if image.len() <= at {
         return state::refused(m, Why::OffGrom(a));
     }
+    journal::put(map, at, 1);
     state::read(m, m.pc, image[at])
 }
 
-pub fn next_word(image: &[u8], m: Now) -> Now
-    ensures { λ r. ⌜ Gives (r .word) nextWord (Image image) m r ⌝ }
+pub fn next_word(image: &[u8], map: &mut [u8], m: Now) -> Now
+    ensures { λ r. ⌜ Gives (r .word) nextWord (Image image & Map map) m r ⌝ }
 {
-    let high = next_byte(image, m);
-    let low = next_byte(image, high);
+    let high = next_byte(image, map, m);
+    let low = next_byte(image, map, high);
     state::give_word(low, number::words::word_of(high.byte, low.byte))
 }
 

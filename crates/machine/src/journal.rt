@@ -32,7 +32,7 @@ pub fn take_mark(journal: &mut [u32], m: Now, pc: u16, source: bool) -> Now
 }
 
 // A byte into a cell, if there is one.
-fn put(memory: &mut [u8], at: usize, b: u8)
+pub(crate) fn put(memory: &mut [u8], at: usize, b: u8)
     ensures { λ _. ⌜ Puts at b memory ⌝ }
 {
     if at < memory.len() {

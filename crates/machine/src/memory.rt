@@ -9,7 +9,7 @@ ghost use mathlib.Core.Path.{_≡_};
 ghost use Rattle.rules.specs.Answers;
 ghost use Rattle.rules.specs.Answers.{answerFor};
 ghost use Rattle.rules.specs.Journal.{kindNumber};
-ghost use Rattle.machine.specs.Meaning.{whyOf, kindOf, reachOf, mayStore, IsNear, IsOf, Loads, Stores};
+ghost use Rattle.machine.specs.Meaning.{whyOf, kindOf, reachOf, mayStore, IsNear, IsOf, IsRam, Loads, Stores};
 
 pub enum Memory {
     Cpu,
@@ -68,8 +68,9 @@ fn kind(k: Memory) -> u32
     }
 }
 
+// Of the image the reads are marked, which is not done here.
 pub fn load(memory: &[u8], m: Now, k: Memory, at: usize) -> Now
-    requires { ⌜ IsOf k memory ⌝ }
+    requires { ⌜ IsOf k memory × IsRam k ⌝ }
     ensures { λ r. ⌜ Loads k at memory m r ⌝ }
 {
     if m.answer != 0 {

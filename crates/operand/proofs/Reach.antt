@@ -24,22 +24,22 @@ use Rattle.operand.specs.Meaning.{cellOf, placeOf, nowOf}
 pub near : (n : ℕ) (c : Cell) → inReach n c ≡ true → c .at + n ≤ 16384
 near n c h = le-trans (leb-true _ _ h) (reach-small (c .kind))
 
-module _ (n : ℕ) (c : Cell) {a : Answer} {pc : ℕ} {m : Mem} where
-  pub reached-at : a .number ≡ 0 → inReach n c ≡ true → Goes (stand a pc m) (reached n c) c (stand a pc m)
+module _ (n : ℕ) (c : Cell) {a : Answer} {pc : ℕ} {m : Mem} {y : List ℕ} where
+  pub reached-at : a .number ≡ 0 → inReach n c ≡ true → Goes (stand a pc m y) (reached n c) c (stand a pc m y)
   unfolding reached
   reached-at z h = seq (need-holds _ h) (gives refl)
 
   pub reached-out : {why : Why} {v : Cell} → a .number ≡ 0 → inReach n c ≡ false → why ≡ outside (c .kind) (firstOut c)
-      → Goes (stand a pc m) (reached n c) v (stand (answerFor why) pc m)
+      → Goes (stand a pc m y) (reached n c) v (stand (answerFor why) pc m y)
   unfolding reached
   reached-out z h e = refuses _ z e h
 
 -- an operand as the code takes it apart, by its place and its state
-pub apart : {w : ℕ} {i p v g : List ℕ} (j : List ℕ) {s : Stand} {n : Now} {l : Place} {r : Rule Cell} (q : Operand)
-    → Goes s r (cellOf (placeOf q)) (standing i w p v g j (nowOf q)) → n ≡ nowOf q → l ≡ placeOf q → Goes s r (cellOf l) (standing i w p v g j n)
-apart {w = w} {i = i} {p = p} {v = v} {g = g} j {s = s} {l = l} {r = r} q e en el =
-    subst (λ (x : Now). Goes s r (cellOf l) (standing i w p v g j x)) (sym en)
-    (subst (λ (y : Place). Goes s r (cellOf y) (standing i w p v g j (nowOf q))) (sym el) e)
+pub apart : {w : ℕ} {i p v g : List ℕ} (j : List ℕ) {z : List ℕ} {s : Stand} {n : Now} {l : Place} {r : Rule Cell} (q : Operand)
+    → Goes s r (cellOf (placeOf q)) (standing i z w p v g j (nowOf q)) → n ≡ nowOf q → l ≡ placeOf q → Goes s r (cellOf l) (standing i z w p v g j n)
+apart {w = w} {i = i} {p = p} {v = v} {g = g} j {z = z} {s = s} {l = l} {r = r} q e en el =
+    subst (λ (x : Now). Goes s r (cellOf l) (standing i z w p v g j x)) (sym en)
+    (subst (λ (y : Place). Goes s r (cellOf y) (standing i z w p v g j (nowOf q))) (sym el) e)
 
 -- the last byte of a byte is itself
 pub byte-ends : (a : ℕ) → eqb a 0x7D ≡ eqb (a + 0) 0x7D

@@ -13,44 +13,44 @@ ghost use mathlib.Core.Path.{_≡_};
 ghost use Prim.Native.Nat.{_+_, _-_, _≤_};
 ghost use Rattle.rules.specs.Operands;
 ghost use Rattle.rules.specs.Operands.{onDataStack, operandOf};
-ghost use Rattle.machine.specs.Meaning.{_&_, Gives, Image, IsPad, Journal, Nothing, Pad};
+ghost use Rattle.machine.specs.Meaning.{_&_, Gives, Image, IsPad, Journal, Map, Nothing, Pad};
 ghost use Rattle.operand.specs.Meaning.{cellOf, placeOf, Locates, Names};
 
 // ---- the offset
 
-fn short_offset(image: &[u8], m: Now, aaaa: u8) -> Now
-    ensures { λ r. ⌜ Gives (r .word) (Operands.shortOffset aaaa) (Image image) m r ⌝ }
+fn short_offset(image: &[u8], map: &mut [u8], m: Now, aaaa: u8) -> Now
+    ensures { λ r. ⌜ Gives (r .word) (Operands.shortOffset aaaa) (Image image & Map map) m r ⌝ }
 {
-    let low = grom::next_byte(image, m);
+    let low = grom::next_byte(image, map, m);
     state::give_word(low, number::words::word_of(aaaa, low.byte))
 }
 
-fn offset(image: &[u8], m: Now, aaaa: u8) -> Now
-    ensures { λ r. ⌜ Gives (r .word) (Operands.offset aaaa) (Image image) m r ⌝ }
+fn offset(image: &[u8], map: &mut [u8], m: Now, aaaa: u8) -> Now
+    ensures { λ r. ⌜ Gives (r .word) (Operands.offset aaaa) (Image image & Map map) m r ⌝ }
 {
     if aaaa == 15 {
-        return grom::next_word(image, m);
+        return grom::next_word(image, map, m);
     }
-    short_offset(image, m, aaaa)
+    short_offset(image, map, m, aaaa)
 }
 
-fn add_index(image: &[u8], pad: &[u8], m: Now, a: u16) -> Now
+fn add_index(image: &[u8], map: &mut [u8], pad: &[u8], m: Now, a: u16) -> Now
     requires { ⌜ IsPad pad ⌝ }
-    ensures { λ r. ⌜ Gives (r .word) (Operands.addIndex a) (Image image & Pad pad) m r ⌝ }
+    ensures { λ r. ⌜ Gives (r .word) (Operands.addIndex a) (Image image & Map map & Pad pad) m r ⌝ }
 {
-    let x = grom::next_byte(image, m);
+    let x = grom::next_byte(image, map, m);
     let at = x.byte as usize;
     let w = cpu::peek_pad_word(pad, x, at);
     state::give_word(w, number::addresses::plus(a, w.word))
 }
 
 // With X, a pad word is added, before any indirection.
-pub fn indexed(image: &[u8], pad: &[u8], m: Now, x: bool, a: u16) -> Now
+pub fn indexed(image: &[u8], map: &mut [u8], pad: &[u8], m: Now, x: bool, a: u16) -> Now
     requires { ⌜ IsPad pad ⌝ }
-    ensures { λ r. ⌜ Gives (r .word) (Operands.indexed x a) (Image image & Pad pad) m r ⌝ }
+    ensures { λ r. ⌜ Gives (r .word) (Operands.indexed x a) (Image image & Map map & Pad pad) m r ⌝ }
 {
     if x {
-        return add_index(image, pad, m, a);
+        return add_index(image, map, pad, m, a);
     }
     state::give_word(m, a)
 }
@@ -152,12 +152,19 @@ fn named(pad: &mut [u8], journal: &mut [u32], m: Now, v: bool, i: bool, a: u16) 
 }
 
 // An operand of more than one byte, by its first: 1XVIaaaa.
-fn far_cell(image: &[u8], pad: &mut [u8], journal: &mut [u32], m: Now, b: u8) -> Located
+fn far_cell(
+    image: &[u8],
+    map: &mut [u8],
+    pad: &mut [u8],
+    journal: &mut [u32],
+    m: Now,
+    b: u8,
+) -> Located
     requires { ⌜ IsPad pad ⌝ }
-    ensures { λ r. ⌜ Names (Operands.farCell b) (Image image & Pad pad & Journal journal) m r ⌝ }
+    ensures { λ r. ⌜ Names (Operands.farCell b) (Image image & Map map & Pad pad & Journal journal) m r ⌝ }
 {
-    let a = offset(image, m, number::bits::nibble(b));
-    let e = indexed(image, pad, a, number::bits::bit(6, b), a.word);
+    let a = offset(image, map, m, number::bits::nibble(b));
+    let e = indexed(image, map, pad, a, number::bits::bit(6, b), a.word);
     named(
         pad,
         journal,
@@ -168,9 +175,16 @@ fn far_cell(image: &[u8], pad: &mut [u8], journal: &mut [u32], m: Now, b: u8) ->
     )
 }
 
-fn any_cell(image: &[u8], pad: &mut [u8], journal: &mut [u32], m: Now, b: u8) -> Located
+fn any_cell(
+    image: &[u8],
+    map: &mut [u8],
+    pad: &mut [u8],
+    journal: &mut [u32],
+    m: Now,
+    b: u8,
+) -> Located
     requires { ⌜ IsPad pad ⌝ }
-    ensures { λ r. ⌜ Names (Operands.anyCell b) (Image image & Pad pad & Journal journal) m r ⌝ }
+    ensures { λ r. ⌜ Names (Operands.anyCell b) (Image image & Map map & Pad pad & Journal journal) m r ⌝ }
 {
     if b < 0x80 {
         let near = b as u16;
@@ -179,7 +193,7 @@ fn any_cell(image: &[u8], pad: &mut [u8], journal: &mut [u32], m: Now, b: u8) ->
             now: m,
         };
     }
-    far_cell(image, pad, journal, m, b)
+    far_cell(image, map, pad, journal, m, b)
 }
 
 // ---- the operand
@@ -199,12 +213,19 @@ fn answered(m: Now, place: Place, n: usize) -> Operand
 }
 
 // An operand of which n bytes must be in range: 1 for a byte or a place, 2 for a word.
-pub fn operand(image: &[u8], pad: &mut [u8], journal: &mut [u32], m: Now, n: usize) -> Operand
+pub fn operand(
+    image: &[u8],
+    map: &mut [u8],
+    pad: &mut [u8],
+    journal: &mut [u32],
+    m: Now,
+    n: usize,
+) -> Operand
     requires { ⌜ IsPad pad × (n ≤ 2) ⌝ }
-    ensures { λ r. ⌜ (cellOf (placeOf r) .at + n ≤ 16384) × Locates (operandOf n) (Image image & Pad pad & Journal journal) m r ⌝ }
+    ensures { λ r. ⌜ (cellOf (placeOf r) .at + n ≤ 16384) × Locates (operandOf n) (Image image & Map map & Pad pad & Journal journal) m r ⌝ }
 {
-    let first = grom::next_byte(image, m);
-    let cell = any_cell(image, pad, journal, first, first.byte);
+    let first = grom::next_byte(image, map, m);
+    let cell = any_cell(image, map, pad, journal, first, first.byte);
     let now = cell.now;
     let place = cell.place;
     answered(now, place, n)

@@ -4,12 +4,13 @@ use crate::places;
 use crate::places::Located;
 use crate::values;
 use machine::state::Now;
-ghost use Rattle.machine.specs.Meaning.{_&_, Image, IsPad, IsVram, Journal, Pad, Vram};
+ghost use Rattle.machine.specs.Meaning.{_&_, Image, IsPad, IsVram, Journal, Map, Pad, Vram};
 ghost use Rattle.operand.specs.Meaning.{Targets};
 
 // Its place, and the state in which its value is the word that was read.
 pub fn read_target(
     image: &[u8],
+    map: &mut [u8],
     pad: &mut [u8],
     vram: &[u8],
     journal: &mut [u32],
@@ -17,9 +18,9 @@ pub fn read_target(
     wide: bool,
 ) -> Located
     requires { ⌜ IsPad pad × IsVram vram ⌝ }
-    ensures { λ r. ⌜ Targets wide (Image image & Pad pad & Vram vram & Journal journal) m r ⌝ }
+    ensures { λ r. ⌜ Targets wide (Image image & Map map & Pad pad & Vram vram & Journal journal) m r ⌝ }
 {
-    let o = decode::operand(image, pad, journal, m, values::byte_count(wide));
+    let o = decode::operand(image, map, pad, journal, m, values::byte_count(wide));
     let at = places::now_of(o);
     let place = places::place_of(o);
     let now = values::value(pad, vram, journal, at, wide, place);

@@ -15,7 +15,7 @@ ghost use Rattle.rules.specs.Rules.{give, peek, peekWord, poke};
 ghost use Rattle.rules.specs.Operands;
 ghost use Rattle.rules.specs.Operands.{byteCount, past, isBuffer, pokeWord};
 ghost use Rattle.rules.specs.Arithmetic.{half, span};
-ghost use Rattle.machine.specs.Meaning.{_&_, Does, Gives, Image, IsPad, IsVram, Journal, Nothing, Pad, Vram};
+ghost use Rattle.machine.specs.Meaning.{_&_, Does, Gives, Image, IsPad, IsVram, Journal, Map, Nothing, Pad, Vram};
 ghost use Rattle.operand.specs.Meaning.{cellOf};
 
 // How many bytes a width has.
@@ -233,6 +233,7 @@ pub fn result(
 
 pub fn operand_value(
     image: &[u8],
+    map: &mut [u8],
     pad: &mut [u8],
     vram: &[u8],
     journal: &mut [u32],
@@ -240,26 +241,27 @@ pub fn operand_value(
     wide: bool,
 ) -> Now
     requires { ⌜ IsPad pad × IsVram vram ⌝ }
-    ensures { λ r. ⌜ (r .word < span (half wide)) × Gives (r .word) (Operands.operandValue wide) (Image image & Pad pad & Vram vram & Journal journal) m r ⌝ }
+    ensures { λ r. ⌜ (r .word < span (half wide)) × Gives (r .word) (Operands.operandValue wide) (Image image & Map map & Pad pad & Vram vram & Journal journal) m r ⌝ }
 {
-    let o = decode::operand(image, pad, journal, m, byte_count(wide));
+    let o = decode::operand(image, map, pad, journal, m, byte_count(wide));
     let at = places::now_of(o);
     value(pad, vram, journal, at, wide, places::place_of(o))
 }
 
 // The bytes at pc.
-pub fn immediate(image: &[u8], m: Now, wide: bool) -> Now
-    ensures { λ r. ⌜ (r .word < span (half wide)) × Gives (r .word) (Operands.immediate wide) (Image image) m r ⌝ }
+pub fn immediate(image: &[u8], map: &mut [u8], m: Now, wide: bool) -> Now
+    ensures { λ r. ⌜ (r .word < span (half wide)) × Gives (r .word) (Operands.immediate wide) (Image image & Map map) m r ⌝ }
 {
     if wide {
-        return grom::next_word(image, m);
+        return grom::next_word(image, map, m);
     }
-    let b = grom::next_byte(image, m);
+    let b = grom::next_byte(image, map, m);
     widened(b)
 }
 
 pub fn source(
     image: &[u8],
+    map: &mut [u8],
     pad: &mut [u8],
     vram: &[u8],
     journal: &mut [u32],
@@ -268,10 +270,10 @@ pub fn source(
     wide: bool,
 ) -> Now
     requires { ⌜ IsPad pad × IsVram vram ⌝ }
-    ensures { λ r. ⌜ (r .word < span (half wide)) × Gives (r .word) (Operands.source imm wide) (Image image & Pad pad & Vram vram & Journal journal) m r ⌝ }
+    ensures { λ r. ⌜ (r .word < span (half wide)) × Gives (r .word) (Operands.source imm wide) (Image image & Map map & Pad pad & Vram vram & Journal journal) m r ⌝ }
 {
     if imm {
-        return immediate(image, m, wide);
+        return immediate(image, map, m, wide);
     }
-    operand_value(image, pad, vram, journal, m, wide)
+    operand_value(image, map, pad, vram, journal, m, wide)
 }

@@ -8,6 +8,9 @@ use Rattle.rules.specs.Cards.{cards, facts, bufferFacts, addressFacts, c
 use Rattle.rules.specs.Gram.{chip, moved, gramFacts, wrapped, holds, everyHolds, takenBack, backFacts}
 use Rattle.rules.specs.Rings as rings
 use Rattle.rules.specs.Tunes as tunes
+use Rattle.rules.specs.Reads.{actReads, reads, beginReads, attemptReads, stepReads, runReads}
+use Rattle.rules.specs.Corners as corners
+use Rattle.rules.specs.Corners.{oldByte}
 use Rattle.rules.proofs.Compute.{everyRule}
 
 pub cards-pass : everyPasses cards ≡ true
@@ -72,3 +75,17 @@ goes-round = refl
 pub flag-back : tunes.backFacts ≡ true
 unfolding everyRule tunes.backSays
 flag-back = refl
+
+-- 02, item 13
+pub reads-hold : corners.everyPasses corners.cases ≡ true
+unfolding everyRule actReads reads beginReads attemptReads stepReads runReads corners.passes corners.everyPasses
+reads-hold = refl
+
+-- an unread byte in the journal: in each its own, so `own-bytes` can't be left out
+pub old-one : oldByte 0x11 ≡ 0x80010111
+unfolding everyRule
+old-one = refl
+
+pub old-other : oldByte 0x22 ≡ 0x80010122
+unfolding everyRule
+old-other = refl

@@ -1,5 +1,5 @@
 -- One rule after the other: the laws by which a function that calls others in a row follows the rule that lists them in a row.
-use mathlib.Core.Path.{_≡_, refl, _∙_, ap, ap₂, sym}
+use mathlib.Core.Path.{_≡_, refl, _∙_, ap, sym}
 use mathlib.Core.Bool.{Bool, true, false}
 use Prim.Native.Nat.{ℕ, _%_}
 use native.Mathlib.Omega.{arith}
@@ -21,17 +21,6 @@ exec-then (refuse why) f pc m = refl
 exec-then (act q k) f pc m =
     then-then (perform q pc m) (λ v. exec (k v)) (λ a. exec (f a)) (λ v. exec (k v >>= f)) (λ v. exec-then (k v) f)
 
--- ---- a call, then a call
-
-pub after-then : {A B C : Type 0} (o : Out A) (r : Rule B) (s : Rule C) → after o (r >>= (λ _. s)) ≡ after (after o r) s
-unfolding after
-after-then (got a pc m) r s = exec-then r (λ _. s) pc m
-after-then (stopped n m) r s = refl
-
-pub seq : {A B C : Type 0} (o : Out A) (o₁ : Out B) (o₂ : Out C) (r : Rule B) (s : Rule C)
-    → o₁ ≡ after o r → o₂ ≡ after o₁ s → o₂ ≡ after o (r >>= (λ _. s))
-seq o o₁ o₂ r s e f = f ∙ ap (λ (x : Out _). after x s) e ∙ sym (after-then o r s)
-
 -- ---- a call whose value is used
 
 after-bind : {A B C : Type 0} (o : Out A) (r : Rule B) (f : B → Rule C)
@@ -50,37 +39,12 @@ pub bind : {A B C : Type 0} (o : Out A) (v : B) (o₁ : Out (Unit {0})) (o₂ : 
 bind {B = B} o v o₁ o₂ r f e h =
     h ∙ sym (then-valued v o₁ f) ∙ ap (λ (x : Out B). then x (λ a pc m. exec (f a) pc m)) e ∙ sym (after-bind o r f)
 
--- ---- a value that is only made, and nothing at all
+-- ---- a value that is only made
 
 pub gives : {A : Type 0} (o : Out (Unit {0})) (v w : A) → v ≡ w → valued v o ≡ after o (give w)
 unfolding after exec valued
 gives (got a pc m) v w e = rw e refl
 gives (stopped n m) v w e = refl
-
--- a value that was read, given once more
-pub regives : {A : Type 0} (o : Out (Unit {0})) (v w : A) (o₁ o₂ : Out (Unit {0})) (r : Rule A)
-    → valued v o₁ ≡ after o r → w ≡ v → valued w o₂ ≡ after o₁ (give w) → valued w o₂ ≡ after o r
-regives o v w o₁ o₂ r e q h = h ∙ sym (gives o₁ w w refl) ∙ ap (λ (x : _). valued x o₁) q ∙ e
-
-pub idle : (o : Out (Unit {0})) → o ≡ after o (give tt)
-unfolding after exec
-idle (got a pc m) = refl
-idle (stopped n m) = refl
-
--- ---- the same rule in other words
-
--- of an equal number
-pub via : {A B : Type 0} (o : Out (Unit {0})) (o₁ : Out A) (f : B → Rule A) (a b : B) → a ≡ b → o₁ ≡ after o (f a) → o₁ ≡ after o (f b)
-via o o₁ f a b e h = h ∙ ap (λ (x : _). after o (f x)) e
-
--- of two equal values
-pub via₂ : {A B C : Type 0} (o : Out (Unit {0})) (o₁ : Out A) (f : B → C → Rule A) (a b : B) (c d : C) → a ≡ b → c ≡ d
-    → o₁ ≡ after o (f a c) → o₁ ≡ after o (f b d)
-via₂ o o₁ f a b c d e k h = h ∙ ap₂ (λ (x : _) (y : _). after o (f x y)) e k
-
--- an equal rule
-pub by-rule : {A : Type 0} (o : Out (Unit {0})) (o₁ : Out A) (r s : Rule A) → s ≡ r → o₁ ≡ after o r → o₁ ≡ after o s
-by-rule o o₁ r s e h = h ∙ ap (λ (x : Rule _). after o x) (sym e)
 
 -- ---- a test
 
@@ -102,18 +66,11 @@ need-unmet c why e = rw e
 
 -- ---- a need, and the rest
 
--- one that is not met: whatever comes after, nothing is done
-unmet : {A : Type 0} (o : Out (Unit {0})) (why : Why) (r s : Rule A) → after (after o (need false why)) r ≡ after (after o (need false why)) s
-unfolding after exec need
-unmet (got a pc m) why r s = refl
-unmet (stopped n m) why r s = refl
-
--- the rest may have any number that is the rule's where the test holds
-pub needed : {A : Type 0} (o o₁ : Out (Unit {0})) (o₂ : Out A) (c : Bool) (why : Why) (f : ℕ → Rule A) (a b : ℕ)
-    → o₁ ≡ after o (need c why) → (c ≡ true → a ≡ b) → o₂ ≡ after o₁ (f a) → o₂ ≡ after o (need c why >>= (λ _. f b))
-needed o o₁ o₂ true why f a b e h k = seq o o₁ o₂ (need true why) (f b) e (via o₁ o₂ f a b (h refl) k)
-needed o o₁ o₂ false why f a b e h k =
-    k ∙ ap (λ (x : Out (Unit {0})). after x (f a)) e ∙ unmet o why (f a) (f b) ∙ sym (after-then o (need false why) (f b))
+-- which may have any number that is the rule's where the test holds: where it does not, nothing more is done
+pub needed : {A : Type 0} (c : Bool) (why : Why) (f : ℕ → Rule A) (a b : ℕ) → (c ≡ true → a ≡ b) → (need c why >>= (λ _. f b)) ≡ (need c why >>= (λ _. f a))
+unfolding need _>>=_
+needed true why f a b h = ap f (sym (h refl))
+needed false why f a b h = refl
 
 -- ---- a store keeps a byte of what it is given
 

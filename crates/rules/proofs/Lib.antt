@@ -2,6 +2,7 @@ pub mod Laws
 pub mod Loops
 pub mod Tests
 pub mod Sending
+pub mod Reading
 pub mod Stores
 pub mod Forget
 pub mod Undo

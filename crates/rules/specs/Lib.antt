@@ -17,3 +17,5 @@ pub mod Cards
 pub mod Gram
 pub mod Rings
 pub mod Tunes
+pub mod Reads
+pub mod Corners

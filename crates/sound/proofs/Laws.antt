@@ -1,16 +1,15 @@
 -- What the proofs share of the rules: the bytes of a block one by one, a size of >FF, and a rule that goes on from the cell of an operand.
-use mathlib.Core.Path.{_≡_, refl, _∙_, ap}
+use mathlib.Core.Path.{_≡_, refl, _∙_, ap, sym}
 use mathlib.Core.Bool.{true, false, not}
 use Prim.Native.Nat.{ℕ, suc, _+_, _-_, _≤_, _<_}
 use native.Mathlib.Omega.{arith}
 use borrow.Author.Tests.{eq-eqb, ne-eqb}
-use Rattle.rules.specs.Machine.{Mem}
-use Rattle.rules.specs.Rules.{Rule, give, refuse, act, _>>=_, Out, got, stopped, then, perform, exec, after}
+use Rattle.rules.specs.Rules.{Rule, give, refuse, act, _>>=_}
 use Rattle.rules.specs.Operands.{Width, Cell, operand, value}
 use Rattle.rules.specs.Sound.{Source, further, sendNext, sendBytes, leap, other, block}
 use Rattle.rules.proofs.Laws.{picked, passed-over}
-use Rattle.machine.specs.Meaning.{Stand, outOf, Goes}
-use Rattle.machine.proofs.Chain.{bind}
+use Rattle.machine.specs.Meaning.{Stand, Goes}
+use Rattle.machine.proofs.Chain.{bind, by-rule}
 use Rattle.operand.specs.Meaning.{readCell}
 
 -- ---- the bytes of a block: one, and the rest, with so much room less
@@ -48,26 +47,20 @@ turned left v a n h e = passed-over _ _ _ (ne-eqb n 0 h) ∙ picked _ _ _ (eq-eq
 
 -- ---- an operand that was read, and a rule that gives a value from its cell
 
-then-same : {A B : Type 0} (o : Out A) (f g : A → ℕ → Mem → Out B) → ((a : A) (pc : ℕ) (m : Mem) → f a pc m ≡ g a pc m) → then o f ≡ then o g
-then-same (got a pc m) f g h = h a pc m
-then-same (stopped n m) f g h = refl
+apart : {A B C : Type 0} (r : Rule A) (g : A → Rule B) (f : B → Rule C) → ((r >>= g) >>= f) ≡ (r >>= (λ a. g a >>= f))
+unfolding _>>=_
+apart (give a) g f = refl
+apart (refuse why) g f = refl
+apart (act q k) g f = λ i. act q (λ v. apart (k v) g f i)
 
-apart : {A B C : Type 0} (r : Rule A) (g : A → Rule B) (f : B → Rule C) (pc : ℕ) (m : Mem) → exec ((r >>= g) >>= f) pc m ≡ exec (r >>= (λ a. g a >>= f)) pc m
-unfolding exec _>>=_
-apart (give a) g f pc m = refl
-apart (refuse why) g f pc m = refl
-apart (act q k) g f pc m = then-same (perform q pc m) (λ v. exec ((k v >>= g) >>= f)) (λ v. exec (k v >>= (λ a. g a >>= f))) (λ v. apart (k v) g f)
-
-read-first : {A B C : Type 0} (r : Rule A) (v : A → Rule B) (f : A → Rule C) (pc : ℕ) (m : Mem)
-    → exec ((r >>= (λ c. v c >>= (λ _. give c))) >>= f) pc m ≡ exec (r >>= (λ c. v c >>= (λ _. f c))) pc m
-unfolding exec _>>=_
-read-first (give a) v f pc m = apart (v a) (λ _. give a) f pc m
-read-first (refuse why) v f pc m = refl
-read-first (act q k) v f pc m =
-    then-same (perform q pc m) (λ x. exec ((k x >>= (λ c. v c >>= (λ _. give c))) >>= f)) (λ x. exec (k x >>= (λ c. v c >>= (λ _. f c)))) (λ x. read-first (k x) v f)
+read-first : {A B C : Type 0} (r : Rule A) (v : A → Rule B) (f : A → Rule C)
+    → (r >>= (λ c. v c >>= (λ _. f c))) ≡ ((r >>= (λ c. v c >>= (λ _. give c))) >>= f)
+unfolding _>>=_
+read-first (give a) v f = sym (apart (v a) (λ _. give a) f)
+read-first (refuse why) v f = refl
+read-first (act q k) v f = λ i. act q (λ x. read-first (k x) v f i)
 
 pub named : {A : Type 0} {s t u : Stand} {c : Cell} {b : A} (w : Width) (f : Cell → Rule A)
     → Goes s (readCell w) c t → Goes t (f c) b u → Goes s (operand w >>= (λ d. value w d >>= (λ _. f d))) b u
-unfolding after readCell
-named {s = s} w f g h =
-    record { is = bind f g h .is ∙ then-same (outOf s) (λ _. exec (readCell w >>= f)) (λ _. exec (operand w >>= (λ d. value w d >>= (λ _. f d)))) (λ _. read-first (operand w) (value w) f) }
+unfolding readCell
+named w f g h = by-rule (read-first (operand w) (value w) f) (bind f g h)

@@ -4,7 +4,7 @@ use machine::state::Now;
 ghost use mathlib.Core.Path.{_≡_};
 ghost use Rattle.rules.specs.Sound;
 ghost use Rattle.rules.specs.Sound.{sendBlock};
-ghost use Rattle.machine.specs.Meaning.{_&_, Gives, Image, IsVram, Vram};
+ghost use Rattle.machine.specs.Meaning.{_&_, Gives, Image, Map, IsVram, Vram};
 ghost use Rattle.sound.specs.Meaning.{Plays, roomIn, dueOf};
 
 // What a block leaves: the address and the source of the one after it, how many ticks on that is due, and how many bytes were sent.
@@ -19,6 +19,7 @@ pub struct Next {
 // n bytes sent, and the count.
 fn send_block(
     image: &[u8],
+    map: &mut [u8],
     vram: &[u8],
     output: &mut [u8],
     m: Now,
@@ -27,13 +28,13 @@ fn send_block(
     n: u8,
 ) -> Next
     requires { ⌜ IsVram vram ⌝ }
-    ensures { λ r. ⌜ Plays (dueOf r) (sendBlock (roomIn output) source a n) (Image image & Vram vram) output (r .sent) m (r .now) ⌝ }
+    ensures { λ r. ⌜ Plays (dueOf r) (sendBlock (roomIn output) source a n) (Image image & Map map & Vram vram) output (r .sent) m (r .now) ⌝ }
 {
     let first = number::addresses::plus(a, 1);
     let last = number::addresses::plus(a, n as u16 + 1);
     let beyond = number::addresses::plus(a, n as u16 + 2);
-    let sent = list::send_bytes(image, vram, output, m, source, first, n);
-    let k = list::list_byte(image, vram, sent.now, source, last);
+    let sent = list::send_bytes(image, map, vram, output, m, source, first, n);
+    let k = list::list_byte(image, map, vram, sent.now, source, last);
     Next {
         now: k,
         list: beyond,
@@ -44,14 +45,14 @@ fn send_block(
 }
 
 // A new address, in one source or the other.
-fn leap(image: &[u8], vram: &[u8], m: Now, source: bool, a: u16, to: bool) -> Next
+fn leap(image: &[u8], map: &mut [u8], vram: &[u8], m: Now, source: bool, a: u16, to: bool) -> Next
     requires { ⌜ IsVram vram ⌝ }
-    ensures { λ r. ⌜ (r .sent ≡ 0) × Gives (dueOf r) (Sound.leap source a to) (Image image & Vram vram) m (r .now) ⌝ }
+    ensures { λ r. ⌜ (r .sent ≡ 0) × Gives (dueOf r) (Sound.leap source a to) (Image image & Map map & Vram vram) m (r .now) ⌝ }
 {
     let first = number::addresses::plus(a, 1);
     let second = number::addresses::plus(a, 2);
-    let high = list::list_byte(image, vram, m, source, first);
-    let low = list::list_byte(image, vram, high, source, second);
+    let high = list::list_byte(image, map, vram, m, source, first);
+    let low = list::list_byte(image, map, vram, high, source, second);
     Next {
         now: low,
         list: number::words::word_of(high.byte, low.byte),
@@ -64,6 +65,7 @@ fn leap(image: &[u8], vram: &[u8], m: Now, source: bool, a: u16, to: bool) -> Ne
 // By its size.
 pub fn block(
     image: &[u8],
+    map: &mut [u8],
     vram: &[u8],
     output: &mut [u8],
     m: Now,
@@ -72,13 +74,13 @@ pub fn block(
     n: u8,
 ) -> Next
     requires { ⌜ IsVram vram ⌝ }
-    ensures { λ r. ⌜ Plays (dueOf r) (Sound.block (roomIn output) source a n) (Image image & Vram vram) output (r .sent) m (r .now) ⌝ }
+    ensures { λ r. ⌜ Plays (dueOf r) (Sound.block (roomIn output) source a n) (Image image & Map map & Vram vram) output (r .sent) m (r .now) ⌝ }
 {
     if n == 0 {
-        return leap(image, vram, m, source, a, source);
+        return leap(image, map, vram, m, source, a, source);
     }
     if n == 255 {
-        return leap(image, vram, m, source, a, !source);
+        return leap(image, map, vram, m, source, a, !source);
     }
-    send_block(image, vram, output, m, source, a, n)
+    send_block(image, map, vram, output, m, source, a, n)
 }

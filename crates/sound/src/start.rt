@@ -7,7 +7,7 @@ ghost use mathlib.Core.Path.{_≡_};
 ghost use lib.Dec.{ltb};
 ghost use Rattle.rules.specs.Machine.{_also_};
 ghost use Rattle.rules.specs.Sound.{inPad, startRule};
-ghost use Rattle.machine.specs.Meaning.{_&_, Gives, Image, IsPad, IsVram, Journal, Pad, Vram};
+ghost use Rattle.machine.specs.Meaning.{_&_, Gives, Image, IsPad, IsVram, Journal, Map, Pad, Vram};
 ghost use Rattle.operand.specs.Meaning.{cellOf};
 
 // The state, and the source flag.
@@ -29,6 +29,7 @@ fn starts(place: Place, f: u16) -> bool
 // The list's address is read whole before it is stored.
 pub fn start(
     image: &[u8],
+    map: &mut [u8],
     pad: &mut [u8],
     vram: &[u8],
     journal: &mut [u32],
@@ -37,12 +38,12 @@ pub fn start(
     wide: bool,
 ) -> Started
     requires { ⌜ IsPad pad × IsVram vram ⌝ }
-    ensures { λ r. ⌜ Gives (r .source) (startRule imm wide) (Image image & Pad pad & Vram vram & Journal journal) m (r .now) ⌝ }
+    ensures { λ r. ⌜ Gives (r .source) (startRule imm wide) (Image image & Map map & Pad pad & Vram vram & Journal journal) m (r .now) ⌝ }
 {
-    let target = operand::targets::read_target(image, pad, vram, journal, m, wide);
+    let target = operand::targets::read_target(image, map, pad, vram, journal, m, wide);
     let read = target.now;
     let place = target.place;
-    let f = operand::values::source(image, pad, vram, journal, read, imm, wide);
+    let f = operand::values::source(image, map, pad, vram, journal, read, imm, wide);
     let sound = machine::state::need(f, starts(place, f.word), Why::NeedsHost);
     let at = operand::places::offset_of(place) as usize;
     let a = machine::pad::peek_pad_word(pad, sound, at);

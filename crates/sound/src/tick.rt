@@ -6,7 +6,7 @@ use machine::state::Now;
 use operand::stacks;
 ghost use Rattle.rules.specs.Sound;
 ghost use Rattle.rules.specs.Sound.{dueBlock, countDown, tickRule};
-ghost use Rattle.machine.specs.Meaning.{_&_, Does, Image, IsPad, IsVram, Journal, Pad, Vram};
+ghost use Rattle.machine.specs.Meaning.{_&_, Does, Image, IsPad, IsVram, Journal, Map, Pad, Vram};
 ghost use Rattle.sound.specs.Meaning.{Ticks, roomIn};
 
 // What a tick leaves: the state, the source flag, and how many bytes were sent.
@@ -40,6 +40,7 @@ fn closed(pad: &mut [u8], journal: &mut [u32], m: Now, source: bool) -> Now
 // The block at the list's address, and where and when the next one is due.
 fn due_block(
     image: &[u8],
+    map: &mut [u8],
     pad: &mut [u8],
     vram: &[u8],
     journal: &mut [u32],
@@ -48,12 +49,12 @@ fn due_block(
     source: bool,
 ) -> Ticked
     requires { ⌜ IsPad pad × IsVram vram ⌝ }
-    ensures { λ r. ⌜ Ticks (dueBlock (roomIn output) source) (Image image & Pad pad & Vram vram & Journal journal) output m r ⌝ }
+    ensures { λ r. ⌜ Ticks (dueBlock (roomIn output) source) (Image image & Map map & Pad pad & Vram vram & Journal journal) output m r ⌝ }
 {
     let a = machine::pad::peek_pad_word(pad, m, cells::LIST);
     let open = opened(pad, journal, a, source);
-    let n = list::list_byte(image, vram, open, source, a.word);
-    let d = block::block(image, vram, output, n, source, a.word, n.byte);
+    let n = list::list_byte(image, map, vram, open, source, a.word);
+    let d = block::block(image, map, vram, output, n, source, a.word, n.byte);
     let moved = machine::pad::poke_pad_word(pad, journal, d.now, cells::LIST, d.list);
     let counted = machine::pad::poke_pad(pad, journal, moved, cells::COUNT, d.count);
     let now = closed(pad, journal, counted, source);
@@ -67,6 +68,7 @@ fn due_block(
 // n is the count that is left.
 fn count_down(
     image: &[u8],
+    map: &mut [u8],
     pad: &mut [u8],
     vram: &[u8],
     journal: &mut [u32],
@@ -76,11 +78,11 @@ fn count_down(
     n: u8,
 ) -> Ticked
     requires { ⌜ IsPad pad × IsVram vram ⌝ }
-    ensures { λ r. ⌜ Ticks (countDown (roomIn output) source n) (Image image & Pad pad & Vram vram & Journal journal) output m r ⌝ }
+    ensures { λ r. ⌜ Ticks (countDown (roomIn output) source n) (Image image & Map map & Pad pad & Vram vram & Journal journal) output m r ⌝ }
 {
     let now = machine::pad::poke_pad(pad, journal, m, cells::COUNT, n);
     if n == 0 {
-        return due_block(image, pad, vram, journal, output, now, source);
+        return due_block(image, map, pad, vram, journal, output, now, source);
     }
     Ticked {
         now,
@@ -92,6 +94,7 @@ fn count_down(
 // On a count of 0 no more is done.
 pub fn tick(
     image: &[u8],
+    map: &mut [u8],
     pad: &mut [u8],
     vram: &[u8],
     journal: &mut [u32],
@@ -100,7 +103,7 @@ pub fn tick(
     source: bool,
 ) -> Ticked
     requires { ⌜ IsPad pad × IsVram vram ⌝ }
-    ensures { λ r. ⌜ Ticks (tickRule (roomIn output) source) (Image image & Pad pad & Vram vram & Journal journal) output m r ⌝ }
+    ensures { λ r. ⌜ Ticks (tickRule (roomIn output) source) (Image image & Map map & Pad pad & Vram vram & Journal journal) output m r ⌝ }
 {
     let c = machine::pad::peek_pad(pad, m, cells::COUNT);
     if c.byte == 0 {
@@ -110,5 +113,15 @@ pub fn tick(
             sent: 0,
         };
     }
-    count_down(image, pad, vram, journal, output, c, source, c.byte - 1)
+    count_down(
+        image,
+        map,
+        pad,
+        vram,
+        journal,
+        output,
+        c,
+        source,
+        c.byte - 1,
+    )
 }

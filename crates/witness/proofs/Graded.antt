@@ -6,7 +6,7 @@ use Prim.Native.Nat.{ℕ}
 use lib.ListN.{length}
 use Rattle.rules.specs.Machine.{State}
 use Rattle.rules.specs.Calls.{Report, run}
-use Rattle.worn.specs.Reads.{runReads}
+use Rattle.rules.specs.Reads.{runReads}
 use Rattle.worn.specs.Worn.{AgreeAt, withImage, Graded}
 use Rattle.worn.proofs.Corners.{worn-corners}
 use Rattle.bench.specs.declared.runs.Report as runs

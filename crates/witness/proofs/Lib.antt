@@ -2,4 +2,5 @@ mod Borne
 mod Counted
 mod Heard
 mod Graded
+mod Mapped
 mod Blame

@@ -9,7 +9,7 @@ use Rattle.rules.specs.Machine.{pick, Kind, State, cells}
 use Rattle.rules.specs.Answers.{saying, answerFor, wrongLength}
 use Rattle.rules.specs.Calls.{Way, tick, fits, done, tickSent, stepBack, report}
 use Rattle.rules.specs.Demands.{Good, Demand1, BackCause, Demand2, past, Ends, Demand3}
-use Rattle.machine.specs.Meaning.{Lent, Parts, Rest, unseenAll}
+use Rattle.machine.specs.Meaning.{Lent, Parts, Rest, unmapped}
 use Rattle.bench.specs.declared.at.At.{At}
 use Rattle.bench.specs.declared.walk.Reply.{Reply}
 use Rattle.bench.specs.declared.runs.Report.{Report}
@@ -20,7 +20,7 @@ use Rattle.bench.specs.Promised.{Said, Called, pastOf}
 
 -- whatever the rest of the machine is
 abbrev pub Meets : {A : Type 0} → (State → Returned A → Type 0) → (Parts → Parts) → At → A → Type 0
-Meets D parts at r = (rest : Rest (parts unseenAll)) → D (lentTo (parts unseenAll) rest at) (returnedBy (parts unseenAll) rest r)
+Meets D parts at r = (rest : Rest (parts unmapped)) → D (lentTo (parts unmapped) rest at) (returnedBy (parts unmapped) rest r)
 
 -- ---- a step, by its way: demand 1, or demand 2
 
@@ -89,7 +89,7 @@ pub record Led (s₀ s : State) : Type 0 where
 -- one call more: they have led on
 abbrev pub LedOn : (Parts → Parts) → At → At → Type 0
 LedOn parts at r =
-    (rest : Rest (parts unseenAll)) (s₀ : State) → Led s₀ (lentTo (parts unseenAll) rest at) → Led s₀ (standsAt (returnedBy (parts unseenAll) rest r) r)
+    (rest : Rest (parts unmapped)) (s₀ : State) → Led s₀ (lentTo (parts unmapped) rest at) → Led s₀ (standsAt (returnedBy (parts unmapped) rest r) r)
 
 -- demand 3 holds of what they said
 pub record Along (s : State) (x : Returned At) : Type 0 where
@@ -117,5 +117,5 @@ pub record BackAgain (these : ℕ → List Way) (s : State) (x : Returned Kept) 
 -- so many step-backs: wherever the calls began, no step is kept then
 abbrev pub TakenBack : ℕ → (Parts → Parts) → At → Kept → Type 0
 TakenBack n parts at r =
-    (rest : Rest (parts unseenAll)) (s₀ : State) (ws : List Way) → length ws ≡ n → Behind s₀ ws n (lentTo (parts unseenAll) rest at)
-    → BackAgain (λ k. oldest k ws) s₀ (returnedBy (parts unseenAll) rest r)
+    (rest : Rest (parts unmapped)) (s₀ : State) (ws : List Way) → length ws ≡ n → Behind s₀ ws n (lentTo (parts unmapped) rest at)
+    → BackAgain (λ k. oldest k ws) s₀ (returnedBy (parts unmapped) rest r)

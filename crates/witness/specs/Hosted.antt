@@ -7,7 +7,7 @@ use denote.Ref.{RefT, now}
 use denote.Triple.Both.{Both}
 use Rattle.rules.specs.Machine.{State}
 use Rattle.rules.specs.Calls.{run}
-use Rattle.machine.specs.Meaning.{Lent, Parts, Rest, unseenAll}
+use Rattle.machine.specs.Meaning.{Lent, Parts, Rest, unmapped}
 use Rattle.bench.specs.declared.at.At.{At}
 use Rattle.bench.specs.declared.walk.Reply.{Reply}
 use Rattle.bench.specs.declared.runs.Report.{Report}
@@ -33,7 +33,7 @@ asReport ring w = beside (λ n. record { answer = n .answer; address = getD (n .
 -- what a call was lent, and what it hands back, whatever the rest of the machine is
 abbrev pub HandsBack : (State → Returned Numbers → Type 0) → (Parts → Parts) → At → ℕ → Lent → Type 0
 HandsBack D parts at answer out =
-    (rest : Rest (parts unseenAll)) → D (lentTo (parts unseenAll) rest at) (returnedBy (parts unseenAll) rest (record { answer = answer; out = now (out .exit) }))
+    (rest : Rest (parts unmapped)) → D (lentTo (parts unmapped) rest at) (returnedBy (parts unmapped) rest (record { answer = answer; out = now (out .exit) }))
 
 abbrev pub RepliesIn : (State → Returned Reply → Type 0) → (Parts → Parts) → ℕ → ℕ → ℕ → ℕ → ℕ → ℕ → ℕ → Lent → Type 0
 RepliesIn D parts pc used ring place w source = HandsBack (λ s x. D s (asReply ring w x)) parts (stands pc used ring place w source)

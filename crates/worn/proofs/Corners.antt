@@ -10,7 +10,7 @@ use Rattle.rules.specs.Machine.{pick, bit, group, mem, State, state}
 use Rattle.rules.specs.Answers.{answerFor, wrongLength}
 use Rattle.rules.specs.Calls.{fits, Report, report, steps, run}
 use Rattle.rules.proofs.Tests.{false-true}
-use Rattle.worn.specs.Reads.{runReads}
+use Rattle.rules.specs.Reads.{runReads}
 use Rattle.worn.specs.Worn.{among, AgreeAt, withImage, Bytes, one-byte, own-bytes, Words, one-word, old-bytes, Same, Graded, reportOver}
 use Rattle.worn.proofs.Pairs.{Open, Byte, first, stored, Word, alike, old, Journals, none, more, journals-same, journals-length, journals-at, worn}
 use Rattle.worn.proofs.Worn.{States, at, Reports, graded, Ran, fits-worn, steps-worn}

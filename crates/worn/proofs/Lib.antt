@@ -1,4 +1,3 @@
 pub mod Pairs
 pub mod Worn
 pub mod Corners
-pub mod Facts

@@ -20,7 +20,7 @@ use Rattle.rules.proofs.Tests.{false-true}
 use Rattle.rules.proofs.Stores.{used-after, older-after}
 use Rattle.rules.proofs.Steps.{Tried, late, tried}
 use Rattle.rules.proofs.Fits.{fits-used}
-use Rattle.worn.specs.Reads.{look, actReads, readsThen, reads, beginReads, attemptReads, stepReads, readsOnto, runReads}
+use Rattle.rules.specs.Reads.{look, actReads, readsThen, reads, beginReads, attemptReads, stepReads, readsOnto, runReads}
 use Rattle.worn.specs.Worn.{among, AgreeAt}
 use Rattle.worn.proofs.Pairs.{agreed, journals-length, journals-blank, Worn, worn}
 use Rattle.worn.proofs.Pairs.{room-worn, spare-worn, lay-worn, make-worn}

@@ -11,8 +11,8 @@ use Rattle.bench.proofs.ticks.fit_tick.Tie as tie
 
 settle-requires : tie.Need-settle-requires
 settle-requires c κs =
-    let at-tick = c .before .before .before .before .before .before .before .before .before .before .before in
-    let at-take-mark = at-tick .before .before .before .before .before .before .before .before in
+    let at-tick = c .before .before .before .before .before .before .before .before .before .before .before .before in
+    let at-take-mark = at-tick .before .before .before .before .before .before .before .before .before in
     let at-begin = at-take-mark .before in
     let start = at-begin .before .before .before .before .before .before .before .before in
     let lent = start .args in
@@ -23,26 +23,26 @@ settle-requires c κs =
 same-length-2 : tie.Need-same-length-2
 same-length-2 c =
     let at-settle = c .before .before .before .before .before .before .before .before .before .before .before .before .before in
-    let at-tick = at-settle .before .before .before .before .before .before .before .before .before .before .before .before in
-    at-settle .settle .kept .1 .0 ∙ at-tick .tick .kept .1 .0
+    let at-tick = at-settle .before .before .before .before .before .before .before .before .before .before .before .before .before in
+    at-settle .settle .kept .1 .0 ∙ at-tick .tick .kept .1 .1 .0
 
 same-length-5 : tie.Need-same-length-5
 same-length-5 c =
     let at-settle = c .before .before .before .before .before .before .before .before .before .before .before .before .before in
-    let at-tick = at-settle .before .before .before .before .before .before .before .before .before .before .before .before in
-    let at-take-mark = at-tick .before .before .before .before .before .before .before .before in
-    at-settle .settle .kept .1 .1 .1 .1 .0 ∙ at-tick .tick .kept .1 .1 .1 .0 ∙ at-take-mark .take-mark .kept .0
+    let at-tick = at-settle .before .before .before .before .before .before .before .before .before .before .before .before .before in
+    let at-take-mark = at-tick .before .before .before .before .before .before .before .before .before in
+    at-settle .settle .kept .1 .1 .1 .1 .0 ∙ at-tick .tick .kept .1 .1 .1 .1 .0 ∙ at-take-mark .take-mark .kept .0
 
 same-length-6 : tie.Need-same-length-6
 same-length-6 c =
-    let at-tick = c .before .before .before .before .before .before .before .before .before .before .before .before .before .before .before .before .before .before .before .before .before .before .before .before .before in
-    at-tick .tick .kept .1 .1 .1 .1 .0
+    let at-tick = c .before .before .before .before .before .before .before .before .before .before .before .before .before .before .before .before .before .before .before .before .before .before .before .before .before .before in
+    at-tick .tick .kept .1 .1 .1 .1 .1 .0
 
 returns : tie.Need-returns
 returns c =
     let at-settle = c .before .before .before .before .before .before .before .before .before .before .before .before .before in
-    let at-tick = at-settle .before .before .before .before .before .before .before .before .before .before .before .before in
-    let at-take-mark = at-tick .before .before .before .before .before .before .before .before in
+    let at-tick = at-settle .before .before .before .before .before .before .before .before .before .before .before .before .before in
+    let at-take-mark = at-tick .before .before .before .before .before .before .before .before .before in
     let at-begin = at-take-mark .before in
     let at-slice-known4 = at-begin .before .before .before .before in
     let at-slice-known3 = at-slice-known4 .before in
@@ -57,37 +57,37 @@ returns c =
 
 wipe-requires : tie.Need-wipe-requires
 wipe-requires c κs =
-    let at-tick = c .before .before .before .before .before .before .before .before .before .before .before .before .before .before .before .before .before .before .before .before .before .before .before .before .before in
+    let at-tick = c .before .before .before .before .before .before .before .before .before .before .before .before .before .before .before .before .before .before .before .before .before .before .before .before .before .before in
     omega (
       arith,
-      at-tick .tick .ensures (record { image = tt; groups = 0; pad = tt; vram = tt; regs = []; journal = tt }) .fits (omega arith),
-      at-tick .tick .kept .1 .1 .1 .1 .0,
+      at-tick .tick .ensures (record { image = tt; map = tt; groups = 0; pad = tt; vram = tt; regs = []; journal = tt }) .fits (omega arith),
+      at-tick .tick .kept .1 .1 .1 .1 .1 .0,
     )
 
 same-length-8 : tie.Need-same-length-8
 same-length-8 c =
     let at-settle = c .before .before .before .before .before .before .before .before .before .before .before .before .before .before .before .before .before in
-    let at-tick = at-settle .before .before .before .before .before .before .before .before .before .before .before .before in
-    at-settle .settle .kept .1 .0 ∙ at-tick .tick .kept .1 .0
+    let at-tick = at-settle .before .before .before .before .before .before .before .before .before .before .before .before .before in
+    at-settle .settle .kept .1 .0 ∙ at-tick .tick .kept .1 .1 .0
 
 same-length-11 : tie.Need-same-length-11
 same-length-11 c =
     let at-settle = c .before .before .before .before .before .before .before .before .before .before .before .before .before .before .before .before .before in
-    let at-tick = at-settle .before .before .before .before .before .before .before .before .before .before .before .before in
-    let at-take-mark = at-tick .before .before .before .before .before .before .before .before in
-    at-settle .settle .kept .1 .1 .1 .1 .0 ∙ at-tick .tick .kept .1 .1 .1 .0 ∙ at-take-mark .take-mark .kept .0
+    let at-tick = at-settle .before .before .before .before .before .before .before .before .before .before .before .before .before in
+    let at-take-mark = at-tick .before .before .before .before .before .before .before .before .before in
+    at-settle .settle .kept .1 .1 .1 .1 .0 ∙ at-tick .tick .kept .1 .1 .1 .1 .0 ∙ at-take-mark .take-mark .kept .0
 
 same-length-12 : tie.Need-same-length-12
 same-length-12 c =
-    let at-tick = c .before .before .before .before .before .before .before .before .before .before .before .before .before .before .before .before .before .before .before .before .before .before .before .before .before .before .before .before .before in
-    c .before .before .before .wipe .kept .0 ∙ at-tick .tick .kept .1 .1 .1 .1 .0
+    let at-tick = c .before .before .before .before .before .before .before .before .before .before .before .before .before .before .before .before .before .before .before .before .before .before .before .before .before .before .before .before .before .before in
+    c .before .before .before .wipe .kept .0 ∙ at-tick .tick .kept .1 .1 .1 .1 .1 .0
 
 returns-2 : tie.Need-returns-2
 returns-2 c =
     let at-if1 = c .before .before .before .before .before in
     let at-settle = at-if1 .before .before .before .before .before .before .before .before .before .before .before .before in
-    let at-tick = at-settle .before .before .before .before .before .before .before .before .before .before .before .before in
-    let at-take-mark = at-tick .before .before .before .before .before .before .before .before in
+    let at-tick = at-settle .before .before .before .before .before .before .before .before .before .before .before .before .before in
+    let at-take-mark = at-tick .before .before .before .before .before .before .before .before .before in
     let at-begin = at-take-mark .before in
     let at-slice-known4 = at-begin .before .before .before .before in
     let at-slice-known3 = at-slice-known4 .before in
@@ -102,6 +102,6 @@ returns-2 c =
 
 pub fit-tick-spec : {M : Type 1} → statement M
 fit-tick-spec =
-    tie.close (tie.spec (search needs) (search needs) (search needs) settle-requires (search needs) (search needs) same-length-2 (search needs)
-    (search needs) same-length-5 same-length-6 returns wipe-requires (search needs) (search needs) same-length-8 (search needs) (search needs)
-    same-length-11 same-length-12 returns-2)
+    tie.close (tie.spec (search needs) (search needs) (search needs) (search needs) settle-requires (search needs) (search needs) same-length-2
+    (search needs) (search needs) same-length-5 same-length-6 returns wipe-requires (search needs) (search needs) same-length-8
+    (search needs) (search needs) same-length-11 same-length-12 returns-2)

@@ -8,7 +8,9 @@ use Rattle.block.proofs.bytes.source_byte.Tie as tie
 
 returns : tie.Need-returns
 unfolding sourceByte
-returns c = λ _. rw (c .before .before .before .from .given .1) (via gromByte (c .before .plus .ensures) (c .grom-byte .ensures _))
+returns c =
+    let at-from = c .before .before .before .before .before .before in
+    λ _. rw (at-from .from .given .1) (via gromByte (c .before .before .before .plus .ensures) (c .before .before .grom-byte .ensures _))
 
 returns-2 : tie.Need-returns-2
 unfolding sourceByte
@@ -20,5 +22,5 @@ returns-3 c = λ _. rw (c .before .before .from3 .given .1) (c .peek-vdp .ensure
 
 pub source-byte-spec : {M : Type 1} → statement M
 source-byte-spec =
-    tie.close (tie.spec (search needs) (search needs) (search needs) (search needs) (search needs) (search needs) (search needs)
+    tie.close (tie.spec (search needs) (search needs) (search needs) (search needs) (search needs) (search needs) (search needs) (search needs)
     (search needs) (search needs) (search needs) (search needs) returns returns-2 returns-3)

@@ -6,14 +6,15 @@ use Rattle.block.proofs.ends.ram_target.Tie as tie
 
 returns : tie.Need-returns
 unfolding ramTarget
-returns c = λ _. rw (c .before .if1 .taken) (c .register-cell .ensures _)
+returns c = λ _. rw (c .before .before .before .before .if1 .taken) (c .before .before .register-cell .ensures _)
 
 returns-2 : tie.Need-returns-2
 unfolding ramTarget
 returns-2 c =
-    let at-if1 = c .before .before .before .before .before .before .before in
-    λ _. rw (at-if1 .if1 .left) (c .before .before .before .before .place-target .ensures _)
+    let at-place-target = c .before .before .before .before .before .before in
+    let at-if1 = at-place-target .before .before .before .before in
+    λ _. rw (at-if1 .if1 .left) (at-place-target .place-target .ensures _)
 
 pub ram-target-spec : {M : Type 1} → statement M
 ram-target-spec =
-    tie.close (tie.spec (search needs) returns (search needs) (search needs) (search needs) returns-2)
+    tie.close (tie.spec (search needs) (search needs) returns (search needs) (search needs) (search needs) (search needs) returns-2)

@@ -8,8 +8,8 @@ use Rattle.block.proofs.ends.register_cell.Tie as tie
 
 returns : tie.Need-returns
 unfolding registerCell
-returns c = λ _. bind _ (c .next-byte .ensures _) (gives refl)
+returns c = λ _. bind _ (c .before .before .next-byte .ensures _) (gives refl)
 
 pub register-cell-spec : {M : Type 1} → statement M
 register-cell-spec =
-    tie.close (tie.spec (search needs) returns)
+    tie.close (tie.spec (search needs) (search needs) returns)

@@ -8,8 +8,8 @@ use Rattle.coinc.proofs.table.table_bit.Tie as tie
 returns : tie.Need-returns
 unfolding tableBit
 returns c =
-    λ _. bind _ (c .before .table-byte .ensures _) (gives (c .bit-of .ensures))
+    λ _. bind _ (c .before .before .before .table-byte .ensures _) (gives (c .bit-of .ensures))
 
 pub table-bit-spec : {M : Type 1} → statement M
 table-bit-spec =
-    tie.close (tie.spec (search needs) (search needs) (search needs) returns)
+    tie.close (tie.spec (search needs) (search needs) (search needs) (search needs) returns)

@@ -7,8 +7,8 @@ use Rattle.coinc.proofs.table.table_byte.Tie as tie
 
 returns : tie.Need-returns
 returns c =
-    λ _. via gromByte (c .before .plus .ensures) (c .grom-byte .ensures _)
+    λ _. via gromByte (c .before .before .before .before .plus .ensures) (c .before .before .grom-byte .ensures _)
 
 pub table-byte-spec : {M : Type 1} → statement M
 table-byte-spec =
-    tie.close (tie.spec (search needs) (search needs) returns)
+    tie.close (tie.spec (search needs) (search needs) (search needs) returns)

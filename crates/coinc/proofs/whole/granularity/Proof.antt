@@ -18,11 +18,12 @@ low-three g h = omega (arith, leb-true g 7 h)
 
 returns : tie.Need-returns
 unfolding granularity
-returns c = (
-  omega (arith, c .give-word .ensures .0),
-  λ _. bind _ (c .before .before .before .before .next-byte .ensures _) (needed tooCoarse give (c .before .before .need .ensures _) (low-three _) (c .give-word .ensures .1 _)),
-)
+returns c =
+    let at-next-byte = c .before .before .before .before .before .before in (
+      omega (arith, c .give-word .ensures .0),
+      λ _. bind _ (at-next-byte .next-byte .ensures _) (needed tooCoarse give (c .before .before .need .ensures _) (low-three _) (c .give-word .ensures .1 _)),
+    )
 
 pub granularity-spec : {M : Type 1} → statement M
 granularity-spec =
-    tie.close (tie.spec (search needs) (search needs) (search needs) (search needs) returns)
+    tie.close (tie.spec (search needs) (search needs) (search needs) (search needs) (search needs) returns)

@@ -7,6 +7,11 @@ use borrow.Author.Needs.{needs}
 use Rattle.flow.proofs.branches.branch.Statement.{statement}
 use Rattle.flow.proofs.branches.branch.Tie as tie
 
+set-condition-requires : tie.Need-set-condition-requires
+set-condition-requires c κs =
+    let start = c .before .before .before .before .before .before .before .before .before .before .before .before .before .before .before .before in
+    start .pre
+
 returns : tie.Need-returns
 unfolding branchRule
 returns c =
@@ -15,8 +20,8 @@ returns c =
     let at-word-of = at-taken .before in
     let at-bit = at-word-of .before in
     let at-peek-pad = at-bit .before in
-    let at-next-byte = at-peek-pad .before .before in
-    let start = at-next-byte .before .before .before .before in
+    let at-next-byte = at-peek-pad .before .before .before .before in
+    let start = at-next-byte .before .before .before .before .before .before in
     let target = at-word-of .word-of in
     let test = at-taken .taken .ensures ∙ ap (taken (start .args .set)) (at-bit .bit .ensures) in
     λ _.
@@ -27,5 +32,5 @@ returns c =
 
 pub branch-spec : {M : Type 1} → statement M
 branch-spec =
-    tie.close (tie.spec (search needs) (search needs) (search needs) (search needs) (search needs) (search needs) (search needs)
-    (search needs) (search needs) returns)
+    tie.close (tie.spec (search needs) (search needs) (search needs) (search needs) (search needs) (search needs) set-condition-requires
+    (search needs) (search needs) (search needs) returns)

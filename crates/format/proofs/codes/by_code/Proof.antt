@@ -9,7 +9,7 @@ use Rattle.format.proofs.codes.by_code.Tie as tie
 
 returns : tie.Need-returns
 returns c =
-    let at-text-code = c .before .before .before .before .before .before in
+    let at-text-code = c .before .before .before .before .before .before .before .before in
     (at-text-code .text-code .ensures .0, λ _. at-text-code .text-code .ensures .1 _)
 
 returns-2 : tie.Need-returns-2
@@ -48,14 +48,14 @@ returns-4 c =
 
 returns-5 : tie.Need-returns-5
 returns-5 c =
-    let at-last-row = c .before .before .before .before .before .before in
-    let at-if4 = at-last-row .before .before .before .before in
-    let start = at-if4 .before .before .before .before .before .before .before .before .before in
+    let at-last-row = c .before .before .before .before .before .before .before .before in
+    let at-if4 = at-last-row .before .before .before .before .before in
+    let start = at-if4 .before .before .before .before .before .before .before .before .before .before in
     (at-last-row .last-row .ensures .0, λ _. by-rule (row 7 _ _ (start .fits .c .fits) (at-if4 .if4 .left)) (at-last-row .last-row .ensures .1 _))
 
 pub by-code-spec : {M : Type 1} → statement M
 by-code-spec =
-    tie.close (tie.spec (search needs) (search needs) (search needs) (search needs) (search needs) returns (search needs)
-    (search needs) (search needs) (search needs) returns-2 (search needs) (search needs) (search needs) (search needs)
-    (search needs) returns-3 (search needs) (search needs) (search needs) returns-4 (search needs) (search needs) (search needs)
+    tie.close (tie.spec (search needs) (search needs) (search needs) (search needs) (search needs) (search needs) returns (search needs)
+    (search needs) (search needs) (search needs) returns-2 (search needs) (search needs) (search needs) (search needs) (search needs)
+    returns-3 (search needs) (search needs) (search needs) returns-4 (search needs) (search needs) (search needs) (search needs)
     (search needs) returns-5)

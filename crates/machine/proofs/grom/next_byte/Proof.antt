@@ -1,4 +1,4 @@
--- Still after a refusal; 6 beyond the image; else the byte, and pc moved on.
+-- Still after a refusal; 6 beyond the image; else the byte, which is marked, and pc moved on.
 use mathlib.Core.Path.{refl}
 use Rattle.machine.proofs.Acts.{still, next-beyond, next-read}
 use borrow.Author.Needs.{needs}
@@ -12,9 +12,12 @@ returns-2 : tie.Need-returns-2
 returns-2 c = λ _. rw (c .refused .ensures) (next-beyond (c .before .before .if1 .left) (c .before .if2 .taken))
 
 returns-3 : tie.Need-returns-3
-returns-3 c = λ _. rw (c .read .ensures) (next-read (c .before .before .before .before .if1 .left) (c .before .before .before .if2 .left) refl
-    (c .before .before .onward .ensures))
+returns-3 c =
+    let at-put = c .before .before .before .before .before in
+    λ _.
+    rw (c .read .ensures)
+    (next-read (at-put .before .before .before .if1 .left) (at-put .before .before .if2 .left) (at-put .put .ensures) refl (c .before .before .onward .ensures))
 
 pub next-byte-spec : {M : Type 1} → statement M
 next-byte-spec =
-    tie.close (tie.spec (search needs) returns (search needs) returns-2 (search needs) (search needs) (search needs) returns-3)
+    tie.close (tie.spec (search needs) returns (search needs) returns-2 (search needs) (search needs) (search needs) (search needs) (search needs) returns-3)

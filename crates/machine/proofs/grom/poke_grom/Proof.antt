@@ -6,7 +6,7 @@ use Rattle.machine.proofs.grom.poke_grom.Statement.{statement}
 use Rattle.machine.proofs.grom.poke_grom.Tie as tie
 
 returns : tie.Need-returns
-returns c = λ rest. c .before .before .before .before .store .ensures (unbooked [] 0 (rest .pad) (rest .vram) (rest .regs) [])
+returns c = λ rest. c .before .before .before .before .store .ensures (unbooked [] 0 (rest .pad) (rest .vram) (rest .regs) []) (rest .map)
 
 pub poke-grom-spec : {M : Type 1} → statement M
 poke-grom-spec =

@@ -30,7 +30,7 @@ loop-again c =
     let at-undo-top = c .before .before .before .before .before .before .before .before .before .before in
     let at-loop = at-undo-top .before .before .before .before .before .before .before in
     let fewer : at-undo-top .undo-top .result .used ≤ at-loop .loop .b .used = undone-used _ _ _
-    (at-undo-top .undo-top .ensures (record { image = tt; groups = 0; pad = tt; vram = tt; regs = tt; journal = tt })) refl in (
+    (at-undo-top .undo-top .ensures (record { image = tt; map = tt; groups = 0; pad = tt; vram = tt; regs = tt; journal = tt })) refl in (
       λ _. at-undo-top .undo-top .ensures _ ∙ undo-more _ _ _ (at-loop .loop .inv .0 _),
       search needs,
       search needs,

@@ -6,23 +6,23 @@ use Rattle.machine.proofs.memory.load.Statement.{statement}
 use Rattle.machine.proofs.memory.load.Tie as tie
 
 returns : tie.Need-returns
-returns c = λ x. still (c .if1 .taken)
+returns c = λ x _. still (c .if1 .taken)
 
 returns-2 : tie.Need-returns-2
 returns-2 c =
     let start = c .before .before .before .before .before .before .before in
-    λ x. rw (c .refused .ensures) (peek-far (start .args .k) _ (x .journal) _ x (c .before .before .before .before .if1 .left)
-    (c .before .before .before .reach .ensures) (c .before .before .if2 .taken) (c .before .outside .ensures))
+    λ x _. rw (c .refused .ensures) (peek-far (start .args .k) _ (x .journal) _ x (c .before .before .before .before .if1 .left)
+    (c .before .before .before .reach .ensures) (start .pre .1) (c .before .before .if2 .taken) (c .before .outside .ensures))
 
 shared-slice-read-read : tie.Need-shared-slice-read-read
 shared-slice-read-read c =
     let start = c .before .before .before .before .before .before in
-    within (start .args .k) (c .before .before .reach .ensures) (start .pre) (c .before .if2 .left)
+    within (start .args .k) (c .before .before .reach .ensures) (start .pre .0) (c .before .if2 .left)
 
 returns-3 : tie.Need-returns-3
 returns-3 c =
     let start = c .before .before .before .before .before .before .before in
-    λ x. rw (c .read .ensures) (peeked (start .args .k) _ (x .journal) _ x (c .before .before .before .before .if1 .left) (c .before .before .before .reach .ensures) (c .before .before .if2 .left) refl)
+    λ x _. rw (c .read .ensures) (peeked (start .args .k) _ (x .journal) _ x (c .before .before .before .before .if1 .left) (c .before .before .before .reach .ensures) (start .pre .1) (c .before .before .if2 .left) refl)
 
 pub load-spec : {M : Type 1} → statement M
 load-spec =

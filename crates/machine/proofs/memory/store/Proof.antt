@@ -12,21 +12,21 @@ use Rattle.machine.proofs.memory.store.Statement.{statement}
 use Rattle.machine.proofs.memory.store.Tie as tie
 
 returns : tie.Need-returns
-returns c = λ x. still (c .if1 .taken)
+returns c = λ x _. still (c .if1 .taken)
 
 returns-2 : tie.Need-returns-2
 returns-2 c =
     let at-outside = c .before .before .before .before .before in
     let at-reach = at-outside .before in
     let start = at-reach .before .before .before .before in
-    λ x. rw (c .refused .ensures) (poke-far (start .args .k) _ _ _ x (c .before .before .if1 .left) (at-reach .reach .ensures) (c .before .if2 .taken) (at-outside .outside .ensures))
+    λ x _. rw (c .refused .ensures) (poke-far (start .args .k) _ _ _ x (c .before .before .if1 .left) (at-reach .reach .ensures) (c .before .if2 .taken) (at-outside .outside .ensures))
 
 returns-3 : tie.Need-returns-3
 returns-3 c =
     let at-may-store = c .before .before .before .before .before in
     let at-reach = at-may-store .before .before in
     let start = at-reach .before .before .before .before in
-    λ x. rw (c .refused2 .ensures) (poke-barred (start .args .k) _ _ _ x (c .before .before .before .if1 .left) (at-reach .reach .ensures) (c .before .before .if2 .left) (sym (at-may-store .may-store .ensures) ∙ denied _ (c .before .if3 .taken)))
+    λ x _. rw (c .refused2 .ensures) (poke-barred (start .args .k) _ _ _ x (c .before .before .before .if1 .left) (at-reach .reach .ensures) (c .before .before .if2 .left) (sym (at-may-store .may-store .ensures) ∙ denied _ (c .before .if3 .taken)))
 
 slice-read-old : tie.Need-slice-read-old
 slice-read-old c =
@@ -55,7 +55,7 @@ returns-4 c =
     let at-may-store = at-if1 .before .before in
     let at-reach = at-may-store .before .before in
     let start = at-reach .before .before .before .before in
-    λ x. rw (c .refused3 .ensures, c .before .keeping .ensures) (poke-full (start .args .k) _ _ _ x (at-if1 .if1 .left) (at-reach .reach .ensures) _ _ (at-if2 .if2 .left)
+    λ x _. rw (c .refused3 .ensures, c .before .keeping .ensures) (poke-full (start .args .k) _ _ _ x (at-if1 .if1 .left) (at-reach .reach .ensures) _ _ (at-if2 .if2 .left)
     (sym (at-may-store .may-store .ensures) ∙ granted _ (at-if3 .if3 .left)) (not-done _ _ (at-lay .lay .ensures (with (start .args .k) _ [] (start .args .m .book) x)) (denied _ (c .before .before .if4 .taken))))
 
 slice-write-memory : tie.Need-slice-write-memory
@@ -76,7 +76,7 @@ returns-5 c =
     let at-may-store = at-if1 .before .before in
     let at-reach = at-may-store .before .before in
     let start = at-reach .before .before .before .before in
-    λ x. rw (c .keeping2 .ensures) (poked (start .args .k) _ _ _ x (at-if1 .if1 .left) (at-reach .reach .ensures) _ _ (at-if2 .if2 .left) (sym (at-may-store .may-store .ensures) ∙ granted _ (at-if3 .if3 .left))
+    λ x _. rw (c .keeping2 .ensures) (poked (start .args .k) _ _ _ x (at-if1 .if1 .left) (at-reach .reach .ensures) _ _ (at-if2 .if2 .left) (sym (at-may-store .may-store .ensures) ∙ granted _ (at-if3 .if3 .left))
     (start .fits .b .fits) (at-kind .kind .ensures) (at-pack .pack .ensures) (done-so _ _ (at-lay .lay .ensures (with (start .args .k) _ [] (start .args .m .book) x)) (granted _ (c .before .if4 .left))))
 
 pub store-spec : {M : Type 1} → statement M

@@ -6,7 +6,7 @@ use Rattle.machine.proofs.pad.peek_pad.Statement.{statement}
 use Rattle.machine.proofs.pad.peek_pad.Tie as tie
 
 returns : tie.Need-returns
-returns c = λ rest. c .load .ensures (unbooked (rest .image) (rest .groups) [] (rest .vram) (rest .regs) (rest .journal))
+returns c = λ rest. c .load .ensures (unbooked (rest .image) (rest .groups) [] (rest .vram) (rest .regs) (rest .journal)) (rest .map)
 
 pub peek-pad-spec : {M : Type 1} → statement M
 peek-pad-spec =

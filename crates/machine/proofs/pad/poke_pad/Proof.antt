@@ -6,7 +6,7 @@ use Rattle.machine.proofs.pad.poke_pad.Statement.{statement}
 use Rattle.machine.proofs.pad.poke_pad.Tie as tie
 
 returns : tie.Need-returns
-returns c = λ rest. c .before .before .before .before .store .ensures (unbooked (rest .image) (rest .groups) [] (rest .vram) (rest .regs) [])
+returns c = λ rest. c .before .before .before .before .store .ensures (unbooked (rest .image) (rest .groups) [] (rest .vram) (rest .regs) []) (rest .map)
 
 pub poke-pad-spec : {M : Type 1} → statement M
 poke-pad-spec =

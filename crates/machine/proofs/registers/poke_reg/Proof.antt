@@ -6,7 +6,7 @@ use Rattle.machine.proofs.registers.poke_reg.Statement.{statement}
 use Rattle.machine.proofs.registers.poke_reg.Tie as tie
 
 returns : tie.Need-returns
-returns c = λ rest. c .before .before .before .before .store .ensures (unbooked (rest .image) (rest .groups) (rest .pad) (rest .vram) [] [])
+returns c = λ rest. c .before .before .before .before .store .ensures (unbooked (rest .image) (rest .groups) (rest .pad) (rest .vram) [] []) (rest .map)
 
 pub poke-reg-spec : {M : Type 1} → statement M
 poke-reg-spec =

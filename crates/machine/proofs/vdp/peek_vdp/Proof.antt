@@ -6,7 +6,7 @@ use Rattle.machine.proofs.vdp.peek_vdp.Statement.{statement}
 use Rattle.machine.proofs.vdp.peek_vdp.Tie as tie
 
 returns : tie.Need-returns
-returns c = λ rest. c .load .ensures (unbooked (rest .image) (rest .groups) (rest .pad) [] (rest .regs) (rest .journal))
+returns c = λ rest. c .load .ensures (unbooked (rest .image) (rest .groups) (rest .pad) [] (rest .regs) (rest .journal)) (rest .map)
 
 pub peek-vdp-spec : {M : Type 1} → statement M
 peek-vdp-spec =

@@ -6,7 +6,7 @@ use Rattle.machine.proofs.vdp.poke_vdp.Statement.{statement}
 use Rattle.machine.proofs.vdp.poke_vdp.Tie as tie
 
 returns : tie.Need-returns
-returns c = λ rest. c .before .before .before .before .store .ensures (unbooked (rest .image) (rest .groups) (rest .pad) [] (rest .regs) [])
+returns c = λ rest. c .before .before .before .before .store .ensures (unbooked (rest .image) (rest .groups) (rest .pad) [] (rest .regs) []) (rest .map)
 
 pub poke-vdp-spec : {M : Type 1} → statement M
 poke-vdp-spec =

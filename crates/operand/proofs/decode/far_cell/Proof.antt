@@ -11,9 +11,9 @@ unfolding farCell
 returns c =
     let at-bit3 = c .before .before .before .before .before in
     let at-bit2 = at-bit3 .before in
-    let at-indexed = at-bit2 .before .before .before in
+    let at-indexed = at-bit2 .before .before .before .before .before in
     let at-bit = at-indexed .before in
-    let at-offset = at-bit .before .before in
+    let at-offset = at-bit .before .before .before .before .before in
     let at-nibble = at-offset .before in
     λ _.
     bind _ (via offset (at-nibble .nibble .ensures) (at-offset .offset .ensures _))
@@ -23,5 +23,4 @@ returns c =
 
 pub far-cell-spec : {M : Type 1} → statement M
 far-cell-spec =
-    tie.close (tie.spec (search needs) (search needs) (search needs) (search needs) (search needs) (search needs) (search needs)
-    (search needs) (search needs) returns)
+    tie.close (tie.spec (search needs) (search needs) (search needs) (search needs) (search needs) (search needs) (search needs) (search needs) (search needs) (search needs) returns)

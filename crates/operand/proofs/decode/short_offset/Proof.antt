@@ -10,8 +10,8 @@ returns : tie.Need-returns
 unfolding shortOffset
 returns c =
     λ _.
-    bind _ (c .before .before .next-byte .ensures _) (via give (c .before .word-of .ensures) (c .give-word .ensures .1 _))
+    bind _ (c .before .before .before .before .next-byte .ensures _) (via give (c .before .word-of .ensures) (c .give-word .ensures .1 _))
 
 pub short-offset-spec : {M : Type 1} → statement M
 short-offset-spec =
-    tie.close (tie.spec (search needs) (search needs) (search needs) returns)
+    tie.close (tie.spec (search needs) (search needs) (search needs) (search needs) returns)

@@ -14,9 +14,9 @@ unfolding readCell
 returns c =
     let at-place-of = c .before .before .before .before .before .before .before in
     let at-now-of = at-place-of .before in
-    let at-operand = at-now-of .before .before .before .before .before in
+    let at-operand = at-now-of .before .before .before .before .before .before .before in
     let at-byte-count = at-operand .before in
-    let start = at-byte-count .before .before .before .before .before .before .before in (
+    let start = at-byte-count .before .before .before .before .before .before .before .before .before in (
       rw (at-place-of .place-of .ensures, ← at-byte-count .byte-count .ensures .0) (at-operand .operand .ensures .0),
       c .before .before .before .before .value .ensures .0,
       λ f _. further
@@ -32,5 +32,4 @@ returns c =
 
 pub read-target-spec : {M : Type 1} → statement M
 read-target-spec =
-    tie.close (tie.spec (search needs) (search needs) (search needs) (search needs) (search needs) (search needs) (search needs)
-    returns)
+    tie.close (tie.spec (search needs) (search needs) (search needs) (search needs) (search needs) (search needs) (search needs) (search needs) returns)

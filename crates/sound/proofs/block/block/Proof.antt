@@ -12,17 +12,21 @@ use Rattle.sound.proofs.block.block.Tie as tie
 
 returns : tie.Need-returns
 unfolding block
-returns c = λ _. by-rule (picked _ _ _ (eq-eqb _ _ (c .before .if1 .taken))) (rw (c .leap .ensures .0) (quietly (quiet-leap _ _ _) (c .leap .ensures .1 _)))
+returns c = λ _. by-rule (picked _ _ _ (eq-eqb _ _ (c .before .before .before .before .if1 .taken))) (rw (c .before .before .leap .ensures .0) (quietly (quiet-leap _ _ _) (c .before .before .leap .ensures .1 _)))
 
 returns-2 : tie.Need-returns-2
-returns-2 c = λ _. by-rule (turned _ _ _ _ (c .before .before .if1 .left) (c .before .if2 .taken)) (rw (c .leap2 .ensures .0) (quietly (quiet-leap _ _ _) (c .leap2 .ensures .1 _)))
+returns-2 c =
+    let at-if1 = c .before .before .before .before .before in
+    λ _. by-rule (turned _ _ _ _ (at-if1 .if1 .left) (c .before .before .before .before .if2 .taken)) (rw (c .before .before .leap2 .ensures .0) (quietly (quiet-leap _ _ _) (c .before .before .leap2 .ensures .1 _)))
 
 returns-3 : tie.Need-returns-3
 unfolding block
 returns-3 c =
-    let at-if1 = c .before .before .before .before .before in
-    λ _. by-rule (passed-over _ _ _ (ne-eqb _ _ (at-if1 .if1 .left)) ∙ passed-over _ _ _ (ne-eqb _ _ (c .before .before .before .before .if2 .left))) (c .before .before .send-block .ensures _)
+    let at-if2 = c .before .before .before .before .before .before .before in
+    let at-if1 = at-if2 .before in
+    λ _. by-rule (passed-over _ _ _ (ne-eqb _ _ (at-if1 .if1 .left)) ∙ passed-over _ _ _ (ne-eqb _ _ (at-if2 .if2 .left))) (c .before .before .before .before .send-block .ensures _)
 
 pub block-spec : {M : Type 1} → statement M
 block-spec =
-    tie.close (tie.spec (search needs) returns (search needs) returns-2 (search needs) (search needs) returns-3)
+    tie.close (tie.spec (search needs) (search needs) returns (search needs) (search needs) returns-2 (search needs) (search needs)
+    (search needs) returns-3)

@@ -10,13 +10,14 @@ use Rattle.sound.proofs.block.send_block.Tie as tie
 returns : tie.Need-returns
 unfolding sendBlock
 returns c =
-    let at-plus3 = c .before .before .before .before .before in
+    let at-send-bytes = c .before .before .before .before .before .before .before .before in
+    let at-plus3 = at-send-bytes .before .before .before in
     let at-plus2 = at-plus3 .before in
     let at-plus = at-plus2 .before in
     λ _. rw (← at-plus .plus .ensures, ← at-plus2 .plus2 .ensures, ← at-plus3 .plus3 .ensures)
-    (seq (c .before .before .before .send-bytes .ensures _) (bind _ (quietly (quiet-byte _ _) (c .list-byte .ensures _)) (gives refl)))
+    (seq (at-send-bytes .send-bytes .ensures _) (bind _ (quietly (quiet-byte _ _) (c .before .before .list-byte .ensures _)) (gives refl)))
 
 pub send-block-spec : {M : Type 1} → statement M
 send-block-spec =
-    tie.close (tie.spec (search needs) (search needs) (search needs) (search needs) (search needs) (search needs) (search needs)
+    tie.close (tie.spec (search needs) (search needs) (search needs) (search needs) (search needs) (search needs) (search needs) (search needs)
     (search needs) returns)

@@ -12,8 +12,8 @@ use Rattle.sound.proofs.tick.count_down.Tie as tie
 returns : tie.Need-returns
 unfolding countDown
 returns c =
-    let at-due-block = c .before .before .before .before .before .before in
-    let at-if1 = at-due-block .before .before .before .before in
+    let at-due-block = c .before .before .before .before .before .before .before .before in
+    let at-if1 = at-due-block .before .before .before .before .before in
     let at-poke-pad = at-if1 .before .before .before .before .before in
     λ _. seq (quietly (quiet-poke _ _ _) (at-poke-pad .poke-pad .ensures _)) (by-rule (picked _ _ _ (eq-eqb _ _ (at-if1 .if1 .taken))) (at-due-block .due-block .ensures _))
 
@@ -25,5 +25,5 @@ returns-2 c =
 
 pub count-down-spec : {M : Type 1} → statement M
 count-down-spec =
-    tie.close (tie.spec (search needs) (search needs) (search needs) (search needs) (search needs) returns (search needs)
+    tie.close (tie.spec (search needs) (search needs) (search needs) (search needs) (search needs) (search needs) returns (search needs)
     (search needs) returns-2)

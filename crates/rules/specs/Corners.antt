@@ -4,10 +4,10 @@ use mathlib.Core.List.{List, [], _∷_, _++_}
 use Prim.Native.Nat.{ℕ, zero, suc}
 use lib.Dec.{eqb}
 use lib.ListN.{getD, replicate}
 use Rattle.rules.specs.Machine.{_also_, cpu, vdp, register, size, group, mem, State, state, put, subPointer, status}
 use Rattle.rules.specs.Calls.{run}
 use Rattle.rules.specs.Cards.{Code, Holds, code, pad, burnt, poured}
-use Rattle.worn.specs.Reads.{runReads}
+use Rattle.rules.specs.Reads.{runReads}
 
 pub record Case : Type 0 where
   -- given: how many bytes the image has, those that are not 0, the writable groups, the cells, how many words the journal has, pc, and how many steps to run

@@ -1,13 +1,15 @@
 -- 02, item 13, "Worn corners that don't matter": the addresses of the image that "the rules read during the run", in their order. They are collected as the stores are.
+use mathlib.Core.Bool.{Bool}
 use mathlib.Core.List.{List, [], _∷_, _++_}
 use Prim.Native.Nat.{ℕ, zero, suc}
-use lib.Dec.{ltb}
-use lib.ListN.{length}
+use lib.Dec.{ltb, eqb}
+use lib.ListN.{length, set}
 use Rattle.rules.specs.Machine.{pick, upon, Mem, State, address, atRest}
+use Rattle.rules.specs.Answers.{answerFor, wrongLength}
 use Rattle.rules.specs.Rules.{Act, next, ask, jump, load, store, send, Rule, give, refuse, act, Out, got, stopped, perform}
 use Rattle.rules.specs.Opcodes.{classOf}
 use Rattle.rules.specs.Tasks.{Plan, halt, go, planOf}
-use Rattle.rules.specs.Calls.{instruction, fits, Reply, done, refused, left, takeMark, step}
+use Rattle.rules.specs.Calls.{instruction, fits, Reply, done, refused, left, takeMark, step, Report, report, run}
 
 -- ---- by an action
 
@@ -34,6 +36,10 @@ unfoldable pub reads : {A : Type 0} → Rule A → ℕ → Mem → List ℕ
 reads (give a) pc m = []
 reads (refuse why) pc m = []
 reads (act q k) pc m = actReads q pc m ++ readsThen (perform q pc m) (λ v pc₁ m₁. reads (k v) pc₁ m₁)
+
+-- by a rule after what went before it
+unfoldable pub readsAfter : {A B : Type 0} → Out A → Rule B → List ℕ
+readsAfter o r = readsThen o (λ _ pc m. reads r pc m)
 
 -- ---- by a step
 
@@ -62,3 +68,22 @@ readsOnto (refused a t) l = []
 unfoldable pub runReads : ℕ → State → List ℕ
 runReads zero s = []
 runReads (suc n) s = stepReads s ++ readsOnto (step instruction s) (runReads n (left (step instruction s)))
+
+-- ---- a run that "says which bytes it read, into a lent map of one byte for each image byte"
+
+-- 1 at each of these addresses: the other bytes stay, so that a map of zeros says what was read, and one lent again gathers several runs
+unfoldable pub marked : List ℕ → List ℕ → List ℕ
+marked [] z = z
+marked (a ∷ l) z = marked l (set z a 1)
+
+-- "11 for a wrong length"
+abbrev pub mapFits : List ℕ → State → Bool
+mapFits z s = eqb (length z) (length (s .mem .image))
+
+-- "what it answers is what `run` answers"
+unfoldable pub mappedRun : ℕ → List ℕ → State → Report
+mappedRun n z s = pick (mapFits z s) (run n s) (report (answerFor wrongLength) 0 0 s)
+
+-- and the map that it leaves
+unfoldable pub mapLeft : ℕ → List ℕ → State → List ℕ
+mapLeft n z s = pick (mapFits z s) (marked (runReads n s) z) z
