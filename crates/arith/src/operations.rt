@@ -11,7 +11,7 @@ use operand::status;
 use operand::targets::read_target;
 use operand::values;
 ghost use Rattle.rules.specs.Instructions.{storeEffect, oneRule, twoRule, exRule};
-ghost use Rattle.machine.specs.Meaning.{_&_, Does, Image, IsPad, IsVram, Journal, Map, Pad, Vram};
+ghost use Rattle.machine.specs.Meaning.{_&_, Does, Image, IsPad, IsVram, Journal, Map, Pad, Ring, Vram};
 ghost use Rattle.operand.specs.Meaning.{cellOf};
 ghost use Rattle.arith.specs.Meaning.{oneOf, twoOf, effectOf};
 
@@ -20,22 +20,23 @@ fn store_effect(
     pad: &mut [u8],
     vram: &mut [u8],
     journal: &mut [u32],
+    ring: &mut [usize],
     m: Now,
     wide: bool,
     place: Place,
     e: Effect,
 ) -> Now
     requires { ⌜ IsPad pad × IsVram vram ⌝ }
-    ensures { λ r. ⌜ Does (storeEffect wide (cellOf place) (effectOf e)) (Pad pad & Vram vram & Journal journal) m r ⌝ }
+    ensures { λ r. ⌜ Does (storeEffect wide (cellOf place) (effectOf e)) (Pad pad & Vram vram & Journal journal & Ring ring) m r ⌝ }
 {
     match e {
         Effect::Both(s, v) => {
-            let flagged = cpu::poke_pad(pad, journal, m, cells::STATUS, s);
-            values::result(pad, vram, journal, flagged, wide, place, v)
+            let flagged = cpu::poke_pad(pad, journal, ring, m, cells::STATUS, s);
+            values::result(pad, vram, journal, ring, flagged, wide, place, v)
         }
-        Effect::Only(v) => values::result(pad, vram, journal, m, wide, place, v),
-        Effect::Flags(s) => cpu::poke_pad(pad, journal, m, cells::STATUS, s),
-        Effect::Condition(c) => status::set_condition(pad, journal, m, c),
+        Effect::Only(v) => values::result(pad, vram, journal, ring, m, wide, place, v),
+        Effect::Flags(s) => cpu::poke_pad(pad, journal, ring, m, cells::STATUS, s),
+        Effect::Condition(c) => status::set_condition(pad, journal, ring, m, c),
     }
 }
 
@@ -45,18 +46,19 @@ pub fn one(
     pad: &mut [u8],
     vram: &mut [u8],
     journal: &mut [u32],
+    ring: &mut [usize],
     m: Now,
     op: One,
     wide: bool,
 ) -> Now
     requires { ⌜ IsPad pad × IsVram vram ⌝ }
-    ensures { λ r. ⌜ Does (oneRule (oneOf op) wide) (Image image & Map map & Pad pad & Vram vram & Journal journal) m r ⌝ }
+    ensures { λ r. ⌜ Does (oneRule (oneOf op) wide) (Image image & Map map & Pad pad & Vram vram & Journal journal & Ring ring) m r ⌝ }
 {
-    let target = read_target(image, map, pad, vram, journal, m, wide);
+    let target = read_target(image, map, pad, vram, journal, ring, m, wide);
     let v = target.now;
     let place = target.place;
     let e = effects::one_effect(op, wide, v.word);
-    store_effect(pad, vram, journal, v, wide, place, e)
+    store_effect(pad, vram, journal, ring, v, wide, place, e)
 }
 
 // The destination is read before the source.
@@ -66,20 +68,21 @@ pub fn two(
     pad: &mut [u8],
     vram: &mut [u8],
     journal: &mut [u32],
+    ring: &mut [usize],
     m: Now,
     op: Two,
     imm: bool,
     wide: bool,
 ) -> Now
     requires { ⌜ IsPad pad × IsVram vram ⌝ }
-    ensures { λ r. ⌜ Does (twoRule (twoOf op) imm wide) (Image image & Map map & Pad pad & Vram vram & Journal journal) m r ⌝ }
+    ensures { λ r. ⌜ Does (twoRule (twoOf op) imm wide) (Image image & Map map & Pad pad & Vram vram & Journal journal & Ring ring) m r ⌝ }
 {
-    let target = read_target(image, map, pad, vram, journal, m, wide);
+    let target = read_target(image, map, pad, vram, journal, ring, m, wide);
     let a = target.now;
     let place = target.place;
-    let b = values::source(image, map, pad, vram, journal, a, imm, wide);
+    let b = values::source(image, map, pad, vram, journal, ring, a, imm, wide);
     let e = effects::two_effect(op, wide, a.word, b.word);
-    store_effect(pad, vram, journal, b, wide, place, e)
+    store_effect(pad, vram, journal, ring, b, wide, place, e)
 }
 
 // Each operand gets the other's value, the destination first.
@@ -89,18 +92,19 @@ pub fn ex(
     pad: &mut [u8],
     vram: &mut [u8],
     journal: &mut [u32],
+    ring: &mut [usize],
     m: Now,
     wide: bool,
 ) -> Now
     requires { ⌜ IsPad pad × IsVram vram ⌝ }
-    ensures { λ r. ⌜ Does (exRule wide) (Image image & Map map & Pad pad & Vram vram & Journal journal) m r ⌝ }
+    ensures { λ r. ⌜ Does (exRule wide) (Image image & Map map & Pad pad & Vram vram & Journal journal & Ring ring) m r ⌝ }
 {
-    let target = read_target(image, map, pad, vram, journal, m, wide);
+    let target = read_target(image, map, pad, vram, journal, ring, m, wide);
     let a = target.now;
     let place = target.place;
-    let other = read_target(image, map, pad, vram, journal, a, wide);
+    let other = read_target(image, map, pad, vram, journal, ring, a, wide);
     let b = other.now;
     let other_place = other.place;
-    let first = values::result(pad, vram, journal, b, wide, place, b.word);
-    values::result(pad, vram, journal, first, wide, other_place, a.word)
+    let first = values::result(pad, vram, journal, ring, b, wide, place, b.word);
+    values::result(pad, vram, journal, ring, first, wide, other_place, a.word)
 }

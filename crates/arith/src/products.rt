@@ -14,7 +14,7 @@ ghost use Rattle.rules.specs.Arithmetic.{half, span};
 ghost use Rattle.rules.specs.Operands.{byteCount, past};
 ghost use Rattle.rules.specs.Instructions;
 ghost use Rattle.rules.specs.Instructions.{halves, mulRule, divStatus, divOverflow, divRule};
-ghost use Rattle.machine.specs.Meaning.{_&_, Does, Image, IsPad, IsVram, Journal, Map, Pad, Vram};
+ghost use Rattle.machine.specs.Meaning.{_&_, Does, Image, IsPad, IsVram, Journal, Map, Pad, Ring, Vram};
 ghost use Rattle.operand.specs.Meaning.{cellOf};
 
 // The place of the low half.
@@ -31,19 +31,21 @@ fn store_halves(
     pad: &mut [u8],
     vram: &mut [u8],
     journal: &mut [u32],
+    ring: &mut [usize],
     m: Now,
     wide: bool,
     place: Place,
     h: Halves,
 ) -> Now
     requires { ⌜ IsPad pad × IsVram vram × (cellOf place .at + byteCount wide ≤ 16384) ⌝ }
-    ensures { λ r. ⌜ Does (halves wide (cellOf place) (h .high) (h .low)) (Pad pad & Vram vram & Journal journal) m r ⌝ }
+    ensures { λ r. ⌜ Does (halves wide (cellOf place) (h .high) (h .low)) (Pad pad & Vram vram & Journal journal & Ring ring) m r ⌝ }
 {
-    let first = values::result(pad, vram, journal, m, wide, place, h.high);
+    let first = values::result(pad, vram, journal, ring, m, wide, place, h.high);
     values::result(
         pad,
         vram,
         journal,
+        ring,
         first,
         wide,
         low_half(wide, place),
@@ -57,19 +59,20 @@ pub fn mul(
     pad: &mut [u8],
     vram: &mut [u8],
     journal: &mut [u32],
+    ring: &mut [usize],
     m: Now,
     imm: bool,
     wide: bool,
 ) -> Now
     requires { ⌜ IsPad pad × IsVram vram ⌝ }
-    ensures { λ r. ⌜ Does (mulRule imm wide) (Image image & Map map & Pad pad & Vram vram & Journal journal) m r ⌝ }
+    ensures { λ r. ⌜ Does (mulRule imm wide) (Image image & Map map & Pad pad & Vram vram & Journal journal & Ring ring) m r ⌝ }
 {
-    let target = read_target(image, map, pad, vram, journal, m, wide);
+    let target = read_target(image, map, pad, vram, journal, ring, m, wide);
     let a = target.now;
     let place = target.place;
-    let b = values::source(image, map, pad, vram, journal, a, imm, wide);
+    let b = values::source(image, map, pad, vram, journal, ring, a, imm, wide);
     let h = products::times(wide, a.word, b.word);
-    store_halves(pad, vram, journal, b, wide, place, h)
+    store_halves(pad, vram, journal, ring, b, wide, place, h)
 }
 
 // ---- DIV
@@ -84,12 +87,12 @@ fn div_status(wide: bool) -> u8
 }
 
 // The status again, with the overflow bit.
-fn div_overflow(pad: &mut [u8], journal: &mut [u32], m: Now, wide: bool) -> Now
+fn div_overflow(pad: &mut [u8], journal: &mut [u32], ring: &mut [usize], m: Now, wide: bool) -> Now
     requires { ⌜ IsPad pad ⌝ }
-    ensures { λ r. ⌜ Does (divOverflow wide) (Pad pad & Journal journal) m r ⌝ }
+    ensures { λ r. ⌜ Does (divOverflow wide) (Pad pad & Journal journal & Ring ring) m r ⌝ }
 {
     let s = div_status(wide) + OVERFLOW;
-    cpu::poke_pad(pad, journal, m, cells::STATUS, s)
+    cpu::poke_pad(pad, journal, ring, m, cells::STATUS, s)
 }
 
 // The quotient must be of one width: the high half must be below the divisor.
@@ -97,6 +100,7 @@ fn divided(
     pad: &mut [u8],
     vram: &mut [u8],
     journal: &mut [u32],
+    ring: &mut [usize],
     m: Now,
     wide: bool,
     place: Place,
@@ -105,13 +109,13 @@ fn divided(
     b: u16,
 ) -> Now
     requires { ⌜ IsPad pad × IsVram vram × (cellOf place .at + byteCount wide ≤ 16384) × (b < span (half wide)) × (lower < span (half wide)) ⌝ }
-    ensures { λ r. ⌜ Does (Instructions.divided wide (cellOf place) upper lower b) (Pad pad & Vram vram & Journal journal) m r ⌝ }
+    ensures { λ r. ⌜ Does (Instructions.divided wide (cellOf place) upper lower b) (Pad pad & Vram vram & Journal journal & Ring ring) m r ⌝ }
 {
     if b <= upper {
-        return div_overflow(pad, journal, m, wide);
+        return div_overflow(pad, journal, ring, m, wide);
     }
     let h = products::divide(wide, upper, lower, b);
-    store_halves(pad, vram, journal, m, wide, place, h)
+    store_halves(pad, vram, journal, ring, m, wide, place, h)
 }
 
 // The status is stored before the low half is read.
@@ -121,23 +125,25 @@ pub fn div(
     pad: &mut [u8],
     vram: &mut [u8],
     journal: &mut [u32],
+    ring: &mut [usize],
     m: Now,
     imm: bool,
     wide: bool,
 ) -> Now
     requires { ⌜ IsPad pad × IsVram vram ⌝ }
-    ensures { λ r. ⌜ Does (divRule imm wide) (Image image & Map map & Pad pad & Vram vram & Journal journal) m r ⌝ }
+    ensures { λ r. ⌜ Does (divRule imm wide) (Image image & Map map & Pad pad & Vram vram & Journal journal & Ring ring) m r ⌝ }
 {
-    let target = read_target(image, map, pad, vram, journal, m, wide);
+    let target = read_target(image, map, pad, vram, journal, ring, m, wide);
     let upper = target.now;
     let place = target.place;
-    let b = values::source(image, map, pad, vram, journal, upper, imm, wide);
-    let flagged = cpu::poke_pad(pad, journal, b, cells::STATUS, div_status(wide));
+    let b = values::source(image, map, pad, vram, journal, ring, upper, imm, wide);
+    let flagged = cpu::poke_pad(pad, journal, ring, b, cells::STATUS, div_status(wide));
     let lower = values::standing(pad, vram, flagged, wide, low_half(wide, place));
     divided(
         pad,
         vram,
         journal,
+        ring,
         lower,
         wide,
         place,

@@ -20,10 +20,10 @@ use Rattle.sound.proofs.Chain.{played}
 use Rattle.bench.specs.declared.at.At.{At}
 use Rattle.bench.specs.declared.walk.Reply as walk
 use Rattle.bench.specs.declared.ticks.Ticked.{Ticked}
-use Rattle.bench.specs.Meaning.{bookAt, stateAt, Returned, returned, Outcome, outcome, told, refusal, settled, beginning, settling, stepping}
+use Rattle.bench.specs.Meaning.{ringAt, stateAt, Returned, returned, Outcome, outcome, told, refusal, settled, beginning, settling, stepping}
 use Rattle.bench.specs.Meaning.{Heard, replied, heard, heardAs, fitTicking, ticking, Tells}
 use Rattle.bench.proofs.Replies.{accepts, refuses, same-told}
-use Rattle.bench.proofs.Steps.{step-unfit, step-fits}
+use Rattle.bench.proofs.Steps.{mark-of, step-unfit, step-fits}
 
 abbrev hearing : Outcome → ℕ → List ℕ → Heard
 hearing a n o = record { outcome = a; sent = n; output = o }
@@ -42,12 +42,12 @@ abbrev Sent : List ℕ → ℕ → List ℕ → List ℕ → Type 0
 Sent bs l o p = (l ≡ length bs) × (l ≤ length o) × (p ≡ bs ++ drop (length bs) o)
 
 -- past the mark, the tick's rule sends what the rules say of the tick
-pub tick-sends : (i p v g j : List ℕ) (at : At) {n : Now} {t u : Stand} {f : Source} {l : ℕ} {o q : List ℕ} → n ≡ began (at .pc) (bookAt at)
-    → outOf t ≡ then (outOf (standing i [] (at .writable) p v g j n)) (λ _ pc₂ m₂. takeMark (flagged (at .pc) (at .source)) pc₂ m₂)
+pub tick-sends : (i p v g j : List ℕ) (at : At) {n : Now} {t u : Stand} {f : Source} {l : ℕ} {o q d : List ℕ} → n ≡ began (at .pc) (at .used) → d ≡ ringAt at
+    → outOf t ≡ then (outOf (standing i [] (at .writable) p v g j d (at .used) (at .place) n)) (λ _ pc₂ m₂. takeMark (flagged (at .pc) (at .source)) pc₂ m₂)
     → Lays t (tickRule (length o) (at .source)) f u 0 l o q → Sent (tickSent (length o) (stateAt i p v g j at)) l o q
-unfolding tickSent outs
-tick-sends i p v g j at {l = l} {o = o} {q = q} b e y =
-    subst (λ (bs : List ℕ). Sent bs l o q) (ap (λ (x : Out (Unit {0})). sends x (tickRule (length o) (at .source))) (e ∙ rw b)) (played y)
+unfolding tickSent
+tick-sends i p v g j at {l = l} {o = o} {q = q} b r e y =
+    subst (λ (bs : List ℕ). Sent bs l o q) (ap (λ (x : Out (Unit {0})). sends x (tickRule (length o) (at .source))) (e ∙ mark-of i p v g j at b r)) (played y)
 
 -- ---- the output wiped
 

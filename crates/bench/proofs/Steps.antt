@@ -28,35 +28,57 @@ use Rattle.rules.proofs.Replies.{tried-done}
 use Rattle.rules.proofs.Opcodes.{never-done}
 use Rattle.machine.specs.declared.state.Now.{Now}
 use Rattle.ring.specs.declared.book.Book.{Book}
+use Rattle.ring.specs.Meaning.{rings, olderOf, placeOf, bookOf}
 use Rattle.ring.proofs.Turned.{length-turned, as-long}
 use Rattle.machine.specs.Meaning.{outs, Stand, stand, standing, outOf, Goes, began}
 use Rattle.machine.specs.Meaning as meaning
 use Rattle.machine.proofs.Chain as chain
 use Rattle.bench.specs.declared.at.At.{At}
 use Rattle.bench.specs.declared.walk.Reply as walk
-use Rattle.bench.specs.Meaning.{bookAt, rests, stateAt, Returned, returned, outcome, replies, told, refusal, settled, beginning, marking, beginningReads, settling, stepping, Tells, Tries, Before, Begun}
+use Rattle.bench.specs.Meaning.{bookAt, ringAt, rests, stateAt, Returned, returned, outcome, replies, told, refusal, settled, beginning, marking, beginningReads, settling, stepping, Tells, Tries, Before, Begun}
 
 pub marked-append : (k l z : List ℕ) → marked (k ++ l) z ≡ marked l (marked k z)
 unfolding marked
 marked-append [] l z = refl
 marked-append (a ∷ k) l z = marked-append k l (set z a 1)
 
+-- ---- the ring that is lent
+
+-- beside it the book is the one of a machine at rest
+ring-at : (at : At) → bookOf (ringAt at) (at .used) (at .place) (at .used) ≡ bookAt at
+unfolding rings olderOf placeOf
+ring-at at = go (at .ring) (at .used) (at .place)
+  where
+    go : (b : Bool) (u a : ℕ) → bookOf (pick b (u ∷ a ∷ []) []) u a u ≡ record { used = u; older = u; place = a; ring = b }
+    go true u a = refl
+    go false u a = refl
+
 -- ---- an attempt
 
--- where pc is pc₁, the mark of a machine at `at` and a rule are the rules' attempt
-pub tries : {i p v g : List ℕ} (j : List ℕ) {r : Rule Source} {f : Source} {at : At} {pc₁ : ℕ} {n : Now} {s e : Stand} → n ≡ began pc₁ (bookAt at)
-    → outOf s ≡ then (outOf (standing i [] (at .writable) p v g j n)) (λ _ pc₂ m₂. takeMark (flagged (at .pc) (at .source)) pc₂ m₂) → Goes s r f e
-    → Tries r f pc₁ (stateAt i p v g j at) (stand (e .answer) (e .pc) (e .mem) [])
-unfolding begin outs
-tries j {r = r} b k h = record { is = h .is ∙ ap (λ (x : Out (Unit {0})). after x r) (k ∙ rw b) }
+-- where pc is pc₁, the mark of a machine at `at` is the rules'
+pub mark-of : (i p v g j : List ℕ) (at : At) {d : List ℕ} {pc₁ : ℕ} {n : Now} → n ≡ began pc₁ (at .used) → d ≡ ringAt at
+    → then (outOf (standing i [] (at .writable) p v g j d (at .used) (at .place) n)) (λ _ pc₂ m₂. takeMark (flagged (at .pc) (at .source)) pc₂ m₂)
+    ≡ takeMark (flagged (at .pc) (at .source)) pc₁ (stateAt i p v g j at .mem)
+unfolding outs
+mark-of i p v g j at {pc₁ = pc₁} b q =
+    rw (b, q) (ap (λ (x : Book). takeMark (flagged (at .pc) (at .source)) pc₁ (meaning.memOf i (at .writable) p v g j x)) (ring-at at))
+
+-- and with a rule it is their attempt
+pub tries : {i p v g : List ℕ} (j : List ℕ) {d : List ℕ} {r : Rule Source} {f : Source} {at : At} {pc₁ : ℕ} {n : Now} {s e : Stand} → n ≡ began pc₁ (at .used)
+    → d ≡ ringAt at
+    → outOf s ≡ then (outOf (standing i [] (at .writable) p v g j d (at .used) (at .place) n)) (λ _ pc₂ m₂. takeMark (flagged (at .pc) (at .source)) pc₂ m₂)
+    → Goes s r f e → Tries r f pc₁ (stateAt i p v g j at) (stand (e .answer) (e .pc) (e .mem) [])
+unfolding begin
+tries {i} {p} {v} {g} j {r = r} {at = at} b q k h = record { is = h .is ∙ ap (λ (x : Out (Unit {0})). after x r) (k ∙ mark-of i p v g j at b q) }
 
 -- and what they read is marked
-pub tries-marks : (i p v g j : List ℕ) (at : At) {r : Rule Source} {f : Source} {pc₁ : ℕ} {n : Now} {s e : Stand} → n ≡ began pc₁ (bookAt at)
-    → outOf s ≡ then (outOf (standing i [] (at .writable) p v g j n)) (λ _ pc₂ m₂. takeMark (flagged (at .pc) (at .source)) pc₂ m₂) → Goes s r f e
-    → e .map ≡ marking (beginningReads r pc₁) (s .map) (stateAt i p v g j at)
-unfolding beginReads readsAfter outs
-tries-marks i p v g j at {r = r} {pc₁ = pc₁} {s = s} b k h =
-    let taken : outOf s ≡ takeMark (flagged (at .pc) (at .source)) pc₁ (atRest (stateAt i p v g j at .mem)) = k ∙ rw b in
+pub tries-marks : (i p v g j : List ℕ) (at : At) {d : List ℕ} {r : Rule Source} {f : Source} {pc₁ : ℕ} {n : Now} {s e : Stand} → n ≡ began pc₁ (at .used)
+    → d ≡ ringAt at
+    → outOf s ≡ then (outOf (standing i [] (at .writable) p v g j d (at .used) (at .place) n)) (λ _ pc₂ m₂. takeMark (flagged (at .pc) (at .source)) pc₂ m₂)
+    → Goes s r f e → e .map ≡ marking (beginningReads r pc₁) (s .map) (stateAt i p v g j at)
+unfolding beginReads readsAfter
+tries-marks i p v g j at {r = r} {pc₁ = pc₁} {s = s} b q k h =
+    let taken : outOf s ≡ takeMark (flagged (at .pc) (at .source)) pc₁ (atRest (stateAt i p v g j at .mem)) = k ∙ mark-of i p v g j at b q in
     h .marks ∙ ap (λ (x : Out (Unit {0})). marked (readsAfter x r) (s .map)) taken
 
 -- a rule that leaves the flag as it is
@@ -107,14 +129,20 @@ module _ {r : Rule Source} {f : Source} {a : Answer} {pc₁ pc₂ : ℕ} {s : St
   put-back b h = rollback-step (address-small b) (b .bytes) refl (rw (ne-eqb (a .number) 0 h) at tried)
 
 -- so it has begun
-pub begun : {w : ℕ} {i p v g : List ℕ} {j : RefT (List ℕ)} {n : Now} {r : Rule Source} {f : Source} {pc₁ : ℕ} {s : State}
-    → Tries r f pc₁ s (standing i [] w p v g (now j) n) → s .mem .used ≤ length (s .mem .journal) → Begun j n
-begun {j = j} {n = n} h u =
+pub begun : {w : ℕ} {i p v g : List ℕ} {j d : RefT (List ℕ)} {at : At} {n : Now} {r : Rule Source} {f : Source} {pc₁ : ℕ} {s : State}
+    → Tries r f pc₁ s (standing i [] w p v g (now j) (now d) (at .used) (at .place) n) → s .mem .used ≤ length (s .mem .journal) → Begun j d at n
+begun {j = j} {d = d} {at = at} {n = n} h u =
     record {
       own = own-above h u;
-      used = rw (length-turned (n .book .ring) (n .book .place) (now j)) at (used-stays h u);
+      used = rw (length-turned (rings (now d)) (placeOf (now d) (at .place)) (now j)) at (used-stays h u);
       marked = λ z. omega (arith, counted h u z);
     }
+
+-- by an equal book
+pub by-book : {w : ℕ} {i p v g : List ℕ} (j : List ℕ) {r : Rule Source} {f : Source} {a : Answer} {pc₁ pc : ℕ} {b c : Book} {s : State} → c ≡ b
+    → Tries r f pc₁ s (stand a pc (meaning.memOf i w p v g j b) []) → Tries r f pc₁ s (stand a pc (meaning.memOf i w p v g j c) [])
+by-book {w} {i} {p} {v} {g} j {r} {f} {a} {pc₁} {pc} {s = s} e h =
+    subst (λ (x : Book). Tries r f pc₁ s (stand a pc (meaning.memOf i w p v g j x) [])) (sym e) h
 
 pub settle-done : {w : ℕ} {i p v g j : List ℕ} {r : Rule Source} {f : Source} {at : At} {a : Answer} {pc₁ pc n : ℕ} {b : Book} {s : State} → Before at s
     → Tries r f pc₁ s (stand a pc (meaning.memOf i w p v g j b) []) → a .number ≡ 0 → n ≡ b .used - b .older - 1
@@ -167,9 +195,11 @@ lent-so {i} {p} {v} {g} j {at} u l w bi bp bv bg =
 -- ---- the opcode read
 
 -- of a machine that has begun, by where it has
-pub from : {A : Type 0} {w : ℕ} {i z p v g : List ℕ} (j : List ℕ) {n : Now} {pc : ℕ} {b : Book} {r : Rule A} {a : A} {t : Stand} → n ≡ began pc b
-    → Goes (standing i z w p v g j n) r a t → Goes (stand well pc (meaning.memOf i w p v g j b) z) r a t
-from {w = w} {i = i} {z = z} {p = p} {v = v} {g = g} j {r = r} {a = a} {t = t} e h = subst (λ (x : Now). Goes (standing i z w p v g j x) r a t) e h
+pub from : {A : Type 0} {w : ℕ} {i z p v g : List ℕ} (j : List ℕ) (at : At) {n : Now} {pc : ℕ} {r : Rule A} {a : A} {t : Stand} → n ≡ began pc (at .used)
+    → Goes (standing i z w p v g j (ringAt at) (at .used) (at .place) n) r a t → Goes (stand well pc (meaning.memOf i w p v g j (bookAt at)) z) r a t
+from {w = w} {i = i} {z = z} {p = p} {v = v} {g = g} j at {pc = pc} {r = r} {a = a} {t = t} e h =
+    subst (λ (x : Book). Goes (stand well pc (meaning.memOf i w p v g j x) z) r a t) (ring-at at)
+    (subst (λ (x : Now). Goes (standing i z w p v g j (ringAt at) (at .used) (at .place) x) r a t) e h)
 
 then-got : {A : Type 0} (o : Out A) → then o (λ v pc m. got v pc m) ≡ o
 then-got (got v pc m) = refl

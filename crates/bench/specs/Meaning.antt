@@ -1,7 +1,7 @@
 -- What the public calls take and hand back, in the words of the rules.
 use mathlib.Core.Path.{_≡_}
 use mathlib.Core.Bool.{true}
-use mathlib.Core.List.{List, []}
+use mathlib.Core.List.{List, [], _∷_}
 use Prim.Native.Nat.{ℕ, _-_, _≤_, _<_}
 use lib.Dec.{eqb, leb}
 use lib.ListN.{length, take, drop}
@@ -17,8 +17,9 @@ use Rattle.rules.specs.Calls as calls
 use Rattle.rules.specs.Reads.{beginReads, attemptReads, marked, mappedRun, mapLeft}
 use Rattle.rules.specs.Demands.{Good}
 use Rattle.ring.specs.declared.book.Book.{Book}
+use Rattle.ring.specs.Meaning.{bookOf}
 use Rattle.machine.specs.declared.state.Now.{Now}
-use Rattle.machine.specs.Meaning.{IsPad, IsVram, IsRegs, Lent, Parts, Rest, after′, memOf, memBefore, start, unmapped, Stand, outOf}
+use Rattle.machine.specs.Meaning.{IsPad, IsVram, IsRegs, Lent, Parts, Rest, after′, answerOf, memOf, memBefore, unmapped, Stand, stand, outOf}
 use Rattle.bench.specs.declared.at.At.{At}
 use Rattle.bench.specs.declared.walk.Reply as walk
 use Rattle.bench.specs.declared.runs.Report as runs
@@ -31,6 +32,10 @@ use Rattle.bench.specs.declared.viewer.Memory.the-variants.{Cpu, Vdp}
 -- the journal's book, where no step is being made
 abbrev pub bookAt : At → Book
 bookAt at = record { used = at .used; older = at .used; place = at .place; ring = at .ring }
+
+-- the ring that is lent beside the journal: the same two numbers, and none of a plain journal
+abbrev pub ringAt : At → List ℕ
+ringAt at = pick (at .ring) (at .used ∷ at .place ∷ []) []
 
 -- where a machine rests
 abbrev pub rests : ℕ → Book → ℕ → Source → At
@@ -48,6 +53,9 @@ pub record Fit (p v g j : RefT (List ℕ)) (at : At) : Type 0 where
   pub vram : IsVram v
   pub regs : IsRegs g
   pub used : at .used ≤ length (now j)
+
+abbrev pub Lends : RefT (List ℕ) → At → Type 0
+Lends r at = now r ≡ ringAt at
 
 -- of all
 abbrev pub Fits : RefT (List ℕ) → RefT (List ℕ) → RefT (List ℕ) → RefT (List ℕ) → RefT (List ℕ) → At → Type 0
@@ -200,11 +208,15 @@ pub record Before (at : At) (s : State) : Type 0 where
   pub good : Good s
   pub used : s .mem .used ≤ length (s .mem .journal)
 
--- what such an attempt leaves of a journal: its own words are above the older ones, all have room, and where it was not refused there is a mark
-pub record Begun (j : RefT (List ℕ)) (m : Now) : Type 0 where
-  pub own : m .book .older ≤ m .book .used
-  pub used : m .book .used ≤ length (now j)
-  pub marked : m .answer ≡ 0 → m .book .older < m .book .used
+-- the journal's book where such an attempt has come to m
+abbrev pub bookNow : RefT (List ℕ) → At → Now → Book
+bookNow r at m = bookOf (now r) (at .used) (at .place) (m .used)
+
+-- what it leaves of a journal: its own words are above the older ones, all have room, and where it was not refused there is a mark
+pub record Begun (j r : RefT (List ℕ)) (at : At) (m : Now) : Type 0 where
+  pub own : bookNow r at m .older ≤ m .used
+  pub used : m .used ≤ length (now j)
+  pub marked : m .answer ≡ 0 → bookNow r at m .older < m .used
 
 -- the state that a function is lent, where q are the parts that it sees
 abbrev pub lentTo : (q : Parts) → Rest q → At → State
@@ -216,9 +228,10 @@ Returns say f q at r =
     (rest : Rest q) → Tells say f (lentTo q rest at) (returnedBy q rest r)
 
 -- whatever was tried, from whichever state at `at`, it is settled
-abbrev pub Settles : (Parts → Parts) → At → Now → Source → walk.Reply → Type 0
-Settles parts at m f x =
-    (rest : Rest (parts unmapped)) (r : Rule Source) (pc₁ : ℕ) (s : State) → Before at s → Tries r f pc₁ s (start (parts unmapped) rest m)
+abbrev pub Settles : (Parts → Parts) → Lent → At → Now → Source → walk.Reply → Type 0
+Settles parts ring at m f x =
+    (rest : Rest (parts unmapped)) (r : Rule Source) (pc₁ : ℕ) (s : State) → Before at s
+    → Tries r f pc₁ s (stand (answerOf m) (m .pc) (memBefore (parts unmapped) rest (bookNow (ring .entry) at m)) [])
     → Tells told (beginning r pc₁) s (returnedBy (parts unmapped) rest x)
 
 abbrev pub Replies : (State → Outcome) → (Parts → Parts) → At → walk.Reply → Type 0

@@ -4,16 +4,18 @@ use machine::state::Now;
 use ring::book::Book;
 ghost use mathlib.Core.Path.{_≡_};
 ghost use Rattle.machine.specs.Meaning.{began};
+ghost use Rattle.ring.specs.Meaning.{bookOf};
 ghost use Rattle.bench.specs.Meaning.{bookAt, rests};
 
 // The program address; the used words of the journal, whether it is a ring, and the place of its oldest kept word; the groups of the image that may
 // be written, bit g for group g; and whether a sound list is in VDP RAM, else it is in GROM. A call takes it and hands the next one back.
+// The fields stand by their size, so that few bytes lie between them.
 pub struct At {
-    pub pc: u16,
     pub used: usize,
-    pub ring: bool,
     pub place: usize,
+    pub pc: u16,
     pub writable: u8,
+    pub ring: bool,
     pub source: bool,
 }
 
@@ -31,9 +33,29 @@ pub(crate) fn book(at: At) -> Book
 
 // A machine that has refused nothing, at an address.
 pub(crate) fn begin(at: At, pc: u16) -> Now
-    ensures { λ r. ⌜ r ≡ began pc (bookAt at) ⌝ }
+    ensures { λ r. ⌜ r ≡ began pc (at .used) ⌝ }
 {
-    state::begin(pc, book(at))
+    state::begin(pc, at.used)
+}
+
+// The journal's book in a step that began at `at`: by its ring, and of a plain journal as it was.
+pub(crate) fn book_by(ring: &[usize], at: At, used: usize) -> Book
+    ensures { λ r. ⌜ r ≡ bookOf (now (ring .entry)) (at .used) (at .place) used ⌝ }
+{
+    if ring.len() < 2 {
+        return Book {
+            used,
+            older: at.used,
+            place: at.place,
+            ring: false,
+        };
+    }
+    Book {
+        used,
+        older: ring[0],
+        place: ring[1],
+        ring: true,
+    }
 }
 
 // Where a machine rests.

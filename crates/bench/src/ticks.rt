@@ -10,7 +10,7 @@ ghost use mathlib.Core.List.{_++_};
 ghost use Prim.Native.Nat.{_≤_};
 ghost use lib.ListN.{length, drop, replicate};
 ghost use Rattle.machine.specs.Meaning.{_&_, Groups, Image, Journal, Pad, Regs, Vram};
-ghost use Rattle.bench.specs.Meaning.{Fit, Hears, fitTicking, heardAs, ticking};
+ghost use Rattle.bench.specs.Meaning.{Fit, Lends, Hears, fitTicking, heardAs, ticking};
 
 // What a tick leaves: as a step, and how many bytes it has sent, which stand in the output from its first byte on.
 pub struct Ticked {
@@ -47,7 +47,41 @@ fn wipe(output: &mut [u8], n: usize)
     }
 }
 
-// A tick past test 11: the mark, the tick's rule, and on a refusal 0 in what was sent.
+// With the ring beside its journal: the mark, the tick's rule, and on a refusal 0 in what was sent.
+fn tick_by(
+    image: &mut [u8],
+    pad: &mut [u8],
+    vram: &mut [u8],
+    regs: &mut [u8],
+    journal: &mut [u32],
+    ring: &mut [usize],
+    at: At,
+    output: &mut [u8],
+) -> Ticked
+    requires { ⌜ Fit pad vram regs journal at × Lends ring at ⌝ }
+    ensures { λ r. ⌜ Hears fitTicking (Image image & Groups (at .writable) & Pad pad & Vram vram & Regs regs & Journal journal) output at r ⌝ }
+{
+    let marked = machine::journal::take_mark(journal, ring, at::begin(at, at.pc), at.pc, at.source);
+    let t = sound::tick::tick(
+        image,
+        &mut [],
+        pad,
+        vram,
+        journal,
+        ring,
+        output,
+        marked,
+        at.source,
+    );
+    let r = walk::settle(image, pad, vram, regs, journal, ring, at, t.now, t.source);
+    if r.answer == 0 {
+        return sending(r, t.sent);
+    }
+    wipe(output, t.sent);
+    sending(r, 0)
+}
+
+// A tick past test 11: the two numbers of a ring are lent, and a plain journal is lent none.
 fn fit_tick(
     image: &mut [u8],
     pad: &mut [u8],
@@ -60,23 +94,12 @@ fn fit_tick(
     requires { ⌜ Fit pad vram regs journal at ⌝ }
     ensures { λ r. ⌜ Hears fitTicking (Image image & Groups (at .writable) & Pad pad & Vram vram & Regs regs & Journal journal) output at r ⌝ }
 {
-    let marked = machine::journal::take_mark(journal, at::begin(at, at.pc), at.pc, at.source);
-    let t = sound::tick::tick(
-        image,
-        &mut [],
-        pad,
-        vram,
-        journal,
-        output,
-        marked,
-        at.source,
-    );
-    let r = walk::settle(image, pad, vram, regs, journal, at, t.now, t.source);
-    if r.answer == 0 {
-        return sending(r, t.sent);
+    if at.ring {
+        let mut ring: [usize; 2] = [at.used, at.place];
+        return tick_by(image, pad, vram, regs, journal, &mut ring, at, output);
     }
-    wipe(output, t.sent);
-    sending(r, 0)
+    let mut none: [usize; 0] = [];
+    tick_by(image, pad, vram, regs, journal, &mut none, at, output)
 }
 
 // A tick, with an output of any length.

@@ -13,7 +13,7 @@ ghost use Rattle.rules.specs.Calls.{instruction};
 ghost use Rattle.rules.specs.Sound.{startRule};
 ghost use Rattle.opcode.specs.Meaning.{taskOf};
 ghost use Rattle.machine.specs.Meaning.{whyOf, _&_, Groups, Image, Journal, Pad, Regs, Vram};
-ghost use Rattle.bench.specs.Meaning.{Fit, Begun, Settles, Replies, Begins, Attempts, refusal, doing, stepping, undoing, backing};
+ghost use Rattle.bench.specs.Meaning.{Fit, Lends, Begun, Settles, Replies, Begins, Attempts, refusal, doing, stepping, undoing, backing};
 
 // What a call leaves: its answer, with the address that was turned down or 0, how many bytes it stored, and where the machine stands.
 pub struct Reply {
@@ -49,14 +49,15 @@ pub(crate) fn settle(
     vram: &mut [u8],
     regs: &mut [u8],
     journal: &mut [u32],
+    ring: &mut [usize],
     at: At,
     m: Now,
     source: bool,
 ) -> Reply
-    requires { ⌜ Begun journal m ⌝ }
-    ensures { λ r. ⌜ Settles (Image image & Groups (at .writable) & Pad pad & Vram vram & Regs regs & Journal journal) at m source r ⌝ }
+    requires { ⌜ Begun journal ring at m ⌝ }
+    ensures { λ r. ⌜ Settles (Image image & Groups (at .writable) & Pad pad & Vram vram & Regs regs & Journal journal) ring at m source r ⌝ }
 {
-    let book = m.book;
+    let book = at::book_by(ring, at, m.used);
     let taken = book.used - book.older;
     if m.answer == 0 {
         let stores = taken - 1;
@@ -83,14 +84,15 @@ fn do_task(
     vram: &mut [u8],
     regs: &mut [u8],
     journal: &mut [u32],
+    ring: &mut [usize],
     at: At,
     next: u16,
     task: Task,
 ) -> Reply
-    requires { ⌜ Fit pad vram regs journal at ⌝ }
+    requires { ⌜ Fit pad vram regs journal at × Lends ring at ⌝ }
     ensures { λ r. ⌜ Begins (doing (taskOf task) at) next (Image image & Groups (at .writable) & Pad pad & Vram vram & Regs regs & Journal journal) map at r ⌝ }
 {
-    let marked = machine::journal::take_mark(journal, at::begin(at, next), at.pc, at.source);
+    let marked = machine::journal::take_mark(journal, ring, at::begin(at, next), at.pc, at.source);
     let m = opcode::task::perform(
         image,
         map,
@@ -98,11 +100,12 @@ fn do_task(
         vram,
         regs,
         journal,
+        ring,
         marked,
         at.writable,
         task,
     );
-    settle(image, pad, vram, regs, journal, at, m, at.source)
+    settle(image, pad, vram, regs, journal, ring, at, m, at.source)
 }
 
 // The mark and the start of a sound list.
@@ -113,29 +116,69 @@ fn do_start(
     vram: &mut [u8],
     regs: &mut [u8],
     journal: &mut [u32],
+    ring: &mut [usize],
     at: At,
     next: u16,
     imm: bool,
     wide: bool,
 ) -> Reply
-    requires { ⌜ Fit pad vram regs journal at ⌝ }
+    requires { ⌜ Fit pad vram regs journal at × Lends ring at ⌝ }
     ensures { λ r. ⌜ Begins (startRule imm wide) next (Image image & Groups (at .writable) & Pad pad & Vram vram & Regs regs & Journal journal) map at r ⌝ }
 {
-    let marked = machine::journal::take_mark(journal, at::begin(at, next), at.pc, at.source);
-    let started = sound::start::start(image, map, pad, vram, journal, marked, imm, wide);
+    let marked = machine::journal::take_mark(journal, ring, at::begin(at, next), at.pc, at.source);
+    let started = sound::start::start(image, map, pad, vram, journal, ring, marked, imm, wide);
     settle(
         image,
         pad,
         vram,
         regs,
         journal,
+        ring,
         at,
         started.now,
         started.source,
     )
 }
 
-// A step past test 11: the opcode, and its class.
+// With the ring beside its journal: the opcode, and its class.
+fn step_by(
+    image: &mut [u8],
+    map: &mut [u8],
+    pad: &mut [u8],
+    vram: &mut [u8],
+    regs: &mut [u8],
+    journal: &mut [u32],
+    ring: &mut [usize],
+    at: At,
+) -> Reply
+    requires { ⌜ Fit pad vram regs journal at × Lends ring at ⌝ }
+    ensures { λ r. ⌜ Attempts (Image image & Groups (at .writable) & Pad pad & Vram vram & Regs regs & Journal journal) map at r ⌝ }
+{
+    let op = machine::grom::next_byte(image, map, at::begin(at, at.pc));
+    if op.answer != 0 {
+        return refused(op.answer, op.address, at);
+    }
+    let class = opcode::class::class_of(op.byte);
+    match class {
+        Class::Stops(why) => turned_down(why, at),
+        Class::Does(task) => do_task(image, map, pad, vram, regs, journal, ring, at, op.pc, task),
+        Class::Starts(imm, wide) => do_start(
+            image,
+            map,
+            pad,
+            vram,
+            regs,
+            journal,
+            ring,
+            at,
+            op.pc,
+            imm,
+            wide,
+        ),
+    }
+}
+
+// A step past test 11: the two numbers of a ring are lent, and a plain journal is lent none.
 pub(crate) fn fit_step(
     image: &mut [u8],
     map: &mut [u8],
@@ -148,27 +191,12 @@ pub(crate) fn fit_step(
     requires { ⌜ Fit pad vram regs journal at ⌝ }
     ensures { λ r. ⌜ Attempts (Image image & Groups (at .writable) & Pad pad & Vram vram & Regs regs & Journal journal) map at r ⌝ }
 {
-    let op = machine::grom::next_byte(image, map, at::begin(at, at.pc));
-    if op.answer != 0 {
-        return refused(op.answer, op.address, at);
+    if at.ring {
+        let mut ring: [usize; 2] = [at.used, at.place];
+        return step_by(image, map, pad, vram, regs, journal, &mut ring, at);
     }
-    let class = opcode::class::class_of(op.byte);
-    match class {
-        Class::Stops(why) => turned_down(why, at),
-        Class::Does(task) => do_task(image, map, pad, vram, regs, journal, at, op.pc, task),
-        Class::Starts(imm, wide) => do_start(
-            image,
-            map,
-            pad,
-            vram,
-            regs,
-            journal,
-            at,
-            op.pc,
-            imm,
-            wide,
-        ),
-    }
+    let mut none: [usize; 0] = [];
+    step_by(image, map, pad, vram, regs, journal, &mut none, at)
 }
 
 pub fn step(

@@ -7,7 +7,7 @@ ghost use Rattle.rules.specs.Machine.{cpu, grom, register, vdp};
 ghost use Rattle.rules.specs.Operands.{cell};
 ghost use Rattle.rules.specs.Instructions.{beyond, sourceByte, registerOne, moveByte};
 ghost use Rattle.rules.specs.Instructions;
-ghost use Rattle.machine.specs.Meaning.{_&_, Does, Gives, Groups, Image, IsPad, IsRegs, IsVram, Journal, Map, Pad, Regs, Vram};
+ghost use Rattle.machine.specs.Meaning.{_&_, Does, Gives, Groups, Image, IsPad, IsRegs, IsVram, Journal, Map, Pad, Regs, Ring, Vram};
 ghost use Rattle.block.specs.Meaning.{targetOf, originOf};
 
 // A GROM address counts in 16 bits.
@@ -37,30 +37,38 @@ fn source_byte(
 }
 
 // Register 1's byte, with the bit of 16 KiB set, goes to its copy first.
-fn register_one(pad: &mut [u8], regs: &mut [u8], journal: &mut [u32], m: Now, b: u8) -> Now
+fn register_one(
+    pad: &mut [u8],
+    regs: &mut [u8],
+    journal: &mut [u32],
+    ring: &mut [usize],
+    m: Now,
+    b: u8,
+) -> Now
     requires { ⌜ IsPad pad × IsRegs regs ⌝ }
-    ensures { λ r. ⌜ Does (registerOne b) (Pad pad & Regs regs & Journal journal) m r ⌝ }
+    ensures { λ r. ⌜ Does (registerOne b) (Pad pad & Regs regs & Journal journal & Ring ring) m r ⌝ }
 {
     let set = 0x80 + b % 0x80;
-    let copied = machine::pad::poke_pad(pad, journal, m, cells::REGISTER_COPY, set);
-    machine::registers::poke_reg(regs, journal, copied, 1, set)
+    let copied = machine::pad::poke_pad(pad, journal, ring, m, cells::REGISTER_COPY, set);
+    machine::registers::poke_reg(regs, journal, ring, copied, 1, set)
 }
 
 fn to_register(
     pad: &mut [u8],
     regs: &mut [u8],
     journal: &mut [u32],
+    ring: &mut [usize],
     m: Now,
     at: usize,
     b: u8,
 ) -> Now
     requires { ⌜ IsPad pad × IsRegs regs ⌝ }
-    ensures { λ r. ⌜ Does (Instructions.deliver (cell register at) b) (Pad pad & Regs regs & Journal journal) m r ⌝ }
+    ensures { λ r. ⌜ Does (Instructions.deliver (cell register at) b) (Pad pad & Regs regs & Journal journal & Ring ring) m r ⌝ }
 {
     if at == 1 {
-        return register_one(pad, regs, journal, m, b);
+        return register_one(pad, regs, journal, ring, m, b);
     }
-    machine::registers::poke_reg(regs, journal, m, at, b)
+    machine::registers::poke_reg(regs, journal, ring, m, at, b)
 }
 
 // To the image only in a writable group, whose address counts in 16 bits too.
@@ -70,6 +78,7 @@ fn deliver(
     vram: &mut [u8],
     regs: &mut [u8],
     journal: &mut [u32],
+    ring: &mut [usize],
     m: Now,
     groups: u8,
     to: Target,
@@ -77,24 +86,25 @@ fn deliver(
     b: u8,
 ) -> Now
     requires { ⌜ IsPad pad × IsVram vram × IsRegs regs ⌝ }
-    ensures { λ r. ⌜ Does (Instructions.deliver (beyond k (targetOf to)) b) (Image image & Groups groups & Pad pad & Vram vram & Regs regs & Journal journal) m r ⌝ }
+    ensures { λ r. ⌜ Does (Instructions.deliver (beyond k (targetOf to)) b) (Image image & Groups groups & Pad pad & Vram vram & Regs regs & Journal journal & Ring ring) m r ⌝ }
 {
     match to {
         Target::Pad(a) => {
             let at = a as usize + k as usize;
-            machine::pad::poke_pad(pad, journal, m, at, b)
+            machine::pad::poke_pad(pad, journal, ring, m, at, b)
         }
         Target::Video(a) => {
             let at = a as usize + k as usize;
-            machine::vdp::poke_vdp(vram, journal, m, at, b)
+            machine::vdp::poke_vdp(vram, journal, ring, m, at, b)
         }
         Target::Register(n) => {
             let at = n as usize + k as usize;
-            to_register(pad, regs, journal, m, at, b)
+            to_register(pad, regs, journal, ring, m, at, b)
         }
         Target::Gram(a) => machine::grom::poke_grom(
             image,
             journal,
+            ring,
             m,
             groups,
             number::addresses::plus(a, k),
@@ -110,6 +120,7 @@ pub fn move_byte(
     vram: &mut [u8],
     regs: &mut [u8],
     journal: &mut [u32],
+    ring: &mut [usize],
     m: Now,
     groups: u8,
     from: Origin,
@@ -117,10 +128,22 @@ pub fn move_byte(
     k: u16,
 ) -> Now
     requires { ⌜ IsPad pad × IsVram vram × IsRegs regs ⌝ }
-    ensures { λ r. ⌜ Does (moveByte (originOf from) (targetOf to) k) (Image image & Map map & Groups groups & Pad pad & Vram vram & Regs regs & Journal journal) m r ⌝ }
+    ensures { λ r. ⌜ Does (moveByte (originOf from) (targetOf to) k) (Image image & Map map & Groups groups & Pad pad & Vram vram & Regs regs & Journal journal & Ring ring) m r ⌝ }
 {
     let b = source_byte(image, map, pad, vram, m, from, k);
-    deliver(image, pad, vram, regs, journal, b, groups, to, k, b.byte)
+    deliver(
+        image,
+        pad,
+        vram,
+        regs,
+        journal,
+        ring,
+        b,
+        groups,
+        to,
+        k,
+        b.byte,
+    )
 }
 
 // From GROM to VDP RAM.
@@ -129,17 +152,18 @@ pub fn grom_to_vdp(
     map: &mut [u8],
     vram: &mut [u8],
     journal: &mut [u32],
+    ring: &mut [usize],
     m: Now,
     a: u16,
     t: u16,
     k: u16,
 ) -> Now
     requires { ⌜ IsVram vram ⌝ }
-    ensures { λ r. ⌜ Does (moveByte (cell grom a) (cell vdp t) k) (Image image & Map map & Vram vram & Journal journal) m r ⌝ }
+    ensures { λ r. ⌜ Does (moveByte (cell grom a) (cell vdp t) k) (Image image & Map map & Vram vram & Journal journal & Ring ring) m r ⌝ }
 {
     let b = machine::grom::grom_byte(image, map, m, number::addresses::plus(a, k));
     let at = t as usize + k as usize;
-    machine::vdp::poke_vdp(vram, journal, b, at, b.byte)
+    machine::vdp::poke_vdp(vram, journal, ring, b, at, b.byte)
 }
 
 // From the pad to VDP RAM.
@@ -147,27 +171,36 @@ pub fn pad_to_vdp(
     pad: &[u8],
     vram: &mut [u8],
     journal: &mut [u32],
+    ring: &mut [usize],
     m: Now,
     a: u16,
     t: u16,
     k: u16,
 ) -> Now
     requires { ⌜ IsPad pad × IsVram vram ⌝ }
-    ensures { λ r. ⌜ Does (moveByte (cell cpu a) (cell vdp t) k) (Pad pad & Vram vram & Journal journal) m r ⌝ }
+    ensures { λ r. ⌜ Does (moveByte (cell cpu a) (cell vdp t) k) (Pad pad & Vram vram & Journal journal & Ring ring) m r ⌝ }
 {
     let from = a as usize + k as usize;
     let b = machine::pad::peek_pad(pad, m, from);
     let at = t as usize + k as usize;
-    machine::vdp::poke_vdp(vram, journal, b, at, b.byte)
+    machine::vdp::poke_vdp(vram, journal, ring, b, at, b.byte)
 }
 
 // Within VDP RAM.
-pub fn vdp_to_vdp(vram: &mut [u8], journal: &mut [u32], m: Now, a: u16, t: u16, k: u16) -> Now
+pub fn vdp_to_vdp(
+    vram: &mut [u8],
+    journal: &mut [u32],
+    ring: &mut [usize],
+    m: Now,
+    a: u16,
+    t: u16,
+    k: u16,
+) -> Now
     requires { ⌜ IsVram vram ⌝ }
-    ensures { λ r. ⌜ Does (moveByte (cell vdp a) (cell vdp t) k) (Vram vram & Journal journal) m r ⌝ }
+    ensures { λ r. ⌜ Does (moveByte (cell vdp a) (cell vdp t) k) (Vram vram & Journal journal & Ring ring) m r ⌝ }
 {
     let from = a as usize + k as usize;
     let b = machine::vdp::peek_vdp(vram, m, from);
     let at = t as usize + k as usize;
-    machine::vdp::poke_vdp(vram, journal, b, at, b.byte)
+    machine::vdp::poke_vdp(vram, journal, ring, b, at, b.byte)
 }

@@ -5,7 +5,7 @@ ghost use mathlib.Core.Path.{_≡_};
 ghost use Rattle.rules.specs.Machine.{grom};
 ghost use Rattle.rules.specs.Operands.{cell, place};
 ghost use Rattle.rules.specs.Instructions.{registerCell, ramTarget, moveTarget, gromCell, moveSource};
-ghost use Rattle.machine.specs.Meaning.{_&_, Gives, Image, IsPad, Journal, Map, Pad};
+ghost use Rattle.machine.specs.Meaning.{_&_, Gives, Image, IsPad, Journal, Map, Pad, Ring};
 ghost use Rattle.operand.specs.Meaning.{cellOf};
 ghost use Rattle.block.specs.Meaning.{targetOf, originOf};
 
@@ -61,11 +61,18 @@ fn register_cell(image: &[u8], map: &mut [u8], m: Now) -> Aimed
     }
 }
 
-fn place_target(image: &[u8], map: &mut [u8], pad: &mut [u8], journal: &mut [u32], m: Now) -> Aimed
+fn place_target(
+    image: &[u8],
+    map: &mut [u8],
+    pad: &mut [u8],
+    journal: &mut [u32],
+    ring: &mut [usize],
+    m: Now,
+) -> Aimed
     requires { ⌜ IsPad pad ⌝ }
-    ensures { λ r. ⌜ Gives (targetOf (r .target)) place (Image image & Map map & Pad pad & Journal journal) m (r .now) ⌝ }
+    ensures { λ r. ⌜ Gives (targetOf (r .target)) place (Image image & Map map & Pad pad & Journal journal & Ring ring) m (r .now) ⌝ }
 {
-    let o = operand::decode::operand(image, map, pad, journal, m, 1);
+    let o = operand::decode::operand(image, map, pad, journal, ring, m, 1);
     Aimed {
         now: operand::places::now_of(o),
         target: target_at(operand::places::place_of(o)),
@@ -78,16 +85,17 @@ fn ram_target(
     map: &mut [u8],
     pad: &mut [u8],
     journal: &mut [u32],
+    ring: &mut [usize],
     m: Now,
     register: bool,
 ) -> Aimed
     requires { ⌜ IsPad pad ⌝ }
-    ensures { λ r. ⌜ Gives (targetOf (r .target)) (ramTarget register) (Image image & Map map & Pad pad & Journal journal) m (r .now) ⌝ }
+    ensures { λ r. ⌜ Gives (targetOf (r .target)) (ramTarget register) (Image image & Map map & Pad pad & Journal journal & Ring ring) m (r .now) ⌝ }
 {
     if register {
         return register_cell(image, map, m);
     }
-    place_target(image, map, pad, journal, m)
+    place_target(image, map, pad, journal, ring, m)
 }
 
 // A two-byte address, with an index or not.
@@ -105,15 +113,16 @@ pub fn move_target(
     map: &mut [u8],
     pad: &mut [u8],
     journal: &mut [u32],
+    ring: &mut [usize],
     m: Now,
     ram: bool,
     register: bool,
 ) -> Aimed
     requires { ⌜ IsPad pad ⌝ }
-    ensures { λ r. ⌜ Gives (targetOf (r .target)) (moveTarget ram register) (Image image & Map map & Pad pad & Journal journal) m (r .now) ⌝ }
+    ensures { λ r. ⌜ Gives (targetOf (r .target)) (moveTarget ram register) (Image image & Map map & Pad pad & Journal journal & Ring ring) m (r .now) ⌝ }
 {
     if ram {
-        return ram_target(image, map, pad, journal, m, register);
+        return ram_target(image, map, pad, journal, ring, m, register);
     }
     let a = grom_cell(image, map, pad, m, false);
     Aimed {
@@ -122,11 +131,18 @@ pub fn move_target(
     }
 }
 
-fn place_source(image: &[u8], map: &mut [u8], pad: &mut [u8], journal: &mut [u32], m: Now) -> Drawn
+fn place_source(
+    image: &[u8],
+    map: &mut [u8],
+    pad: &mut [u8],
+    journal: &mut [u32],
+    ring: &mut [usize],
+    m: Now,
+) -> Drawn
     requires { ⌜ IsPad pad ⌝ }
-    ensures { λ r. ⌜ Gives (originOf (r .origin)) place (Image image & Map map & Pad pad & Journal journal) m (r .now) ⌝ }
+    ensures { λ r. ⌜ Gives (originOf (r .origin)) place (Image image & Map map & Pad pad & Journal journal & Ring ring) m (r .now) ⌝ }
 {
-    let o = operand::decode::operand(image, map, pad, journal, m, 1);
+    let o = operand::decode::operand(image, map, pad, journal, ring, m, 1);
     Drawn {
         now: operand::places::now_of(o),
         origin: origin_at(operand::places::place_of(o)),
@@ -139,15 +155,16 @@ pub fn move_source(
     map: &mut [u8],
     pad: &mut [u8],
     journal: &mut [u32],
+    ring: &mut [usize],
     m: Now,
     operand: bool,
     x: bool,
 ) -> Drawn
     requires { ⌜ IsPad pad ⌝ }
-    ensures { λ r. ⌜ Gives (originOf (r .origin)) (moveSource operand x) (Image image & Map map & Pad pad & Journal journal) m (r .now) ⌝ }
+    ensures { λ r. ⌜ Gives (originOf (r .origin)) (moveSource operand x) (Image image & Map map & Pad pad & Journal journal & Ring ring) m (r .now) ⌝ }
 {
     if operand {
-        return place_source(image, map, pad, journal, m);
+        return place_source(image, map, pad, journal, ring, m);
     }
     let a = grom_cell(image, map, pad, m, x);
     Drawn {

@@ -8,7 +8,7 @@ ghost use mathlib.Core.Path.{_≡_};
 ghost use Rattle.rules.specs.Machine.{cpu, grom, vdp};
 ghost use Rattle.rules.specs.Operands.{cell};
 ghost use Rattle.rules.specs.Instructions.{moveCount, moveBytes, moveRule};
-ghost use Rattle.machine.specs.Meaning.{_&_, Does, Groups, Image, IsPad, IsRegs, IsVram, Journal, Map, Pad, Regs, Vram};
+ghost use Rattle.machine.specs.Meaning.{_&_, Does, Groups, Image, IsPad, IsRegs, IsVram, Journal, Map, Pad, Regs, Ring, Vram};
 ghost use Rattle.block.specs.Meaning.{targetOf, originOf};
 
 // How many bytes a length moves: from 1 to >8000 as many, any other one.
@@ -30,18 +30,19 @@ fn grom_bytes(
     map: &mut [u8],
     vram: &mut [u8],
     journal: &mut [u32],
+    ring: &mut [usize],
     m: Now,
     n: u16,
     a: u16,
     t: u16,
 ) -> Now
     requires { ⌜ IsVram vram ⌝ }
-    ensures { λ r. ⌜ Does (moveBytes n 0 (cell grom a) (cell vdp t)) (Image image & Map map & Vram vram & Journal journal) m r ⌝ }
+    ensures { λ r. ⌜ Does (moveBytes n 0 (cell grom a) (cell vdp t)) (Image image & Map map & Vram vram & Journal journal & Ring ring) m r ⌝ }
 {
     let mut x = m;
     let mut k: u16 = 0;
     while k < n {
-        x = bytes::grom_to_vdp(image, map, vram, journal, x, a, t, k);
+        x = bytes::grom_to_vdp(image, map, vram, journal, ring, x, a, t, k);
         if x.answer != 0 {
             return x;
         }
@@ -54,18 +55,19 @@ fn pad_bytes(
     pad: &[u8],
     vram: &mut [u8],
     journal: &mut [u32],
+    ring: &mut [usize],
     m: Now,
     n: u16,
     a: u16,
     t: u16,
 ) -> Now
     requires { ⌜ IsPad pad × IsVram vram ⌝ }
-    ensures { λ r. ⌜ Does (moveBytes n 0 (cell cpu a) (cell vdp t)) (Pad pad & Vram vram & Journal journal) m r ⌝ }
+    ensures { λ r. ⌜ Does (moveBytes n 0 (cell cpu a) (cell vdp t)) (Pad pad & Vram vram & Journal journal & Ring ring) m r ⌝ }
 {
     let mut x = m;
     let mut k: u16 = 0;
     while k < n {
-        x = bytes::pad_to_vdp(pad, vram, journal, x, a, t, k);
+        x = bytes::pad_to_vdp(pad, vram, journal, ring, x, a, t, k);
         if x.answer != 0 {
             return x;
         }
@@ -74,14 +76,22 @@ fn pad_bytes(
     x
 }
 
-fn vdp_bytes(vram: &mut [u8], journal: &mut [u32], m: Now, n: u16, a: u16, t: u16) -> Now
+fn vdp_bytes(
+    vram: &mut [u8],
+    journal: &mut [u32],
+    ring: &mut [usize],
+    m: Now,
+    n: u16,
+    a: u16,
+    t: u16,
+) -> Now
     requires { ⌜ IsVram vram ⌝ }
-    ensures { λ r. ⌜ Does (moveBytes n 0 (cell vdp a) (cell vdp t)) (Vram vram & Journal journal) m r ⌝ }
+    ensures { λ r. ⌜ Does (moveBytes n 0 (cell vdp a) (cell vdp t)) (Vram vram & Journal journal & Ring ring) m r ⌝ }
 {
     let mut x = m;
     let mut k: u16 = 0;
     while k < n {
-        x = bytes::vdp_to_vdp(vram, journal, x, a, t, k);
+        x = bytes::vdp_to_vdp(vram, journal, ring, x, a, t, k);
         if x.answer != 0 {
             return x;
         }
@@ -98,6 +108,7 @@ fn any_bytes(
     vram: &mut [u8],
     regs: &mut [u8],
     journal: &mut [u32],
+    ring: &mut [usize],
     m: Now,
     groups: u8,
     n: u16,
@@ -105,12 +116,25 @@ fn any_bytes(
     to: Target,
 ) -> Now
     requires { ⌜ IsPad pad × IsVram vram × IsRegs regs ⌝ }
-    ensures { λ r. ⌜ Does (moveBytes n 0 (originOf from) (targetOf to)) (Image image & Map map & Groups groups & Pad pad & Vram vram & Regs regs & Journal journal) m r ⌝ }
+    ensures { λ r. ⌜ Does (moveBytes n 0 (originOf from) (targetOf to)) (Image image & Map map & Groups groups & Pad pad & Vram vram & Regs regs & Journal journal & Ring ring) m r ⌝ }
 {
     let mut x = m;
     let mut k: u16 = 0;
     while k < n {
-        x = bytes::move_byte(image, map, pad, vram, regs, journal, x, groups, from, to, k);
+        x = bytes::move_byte(
+            image,
+            map,
+            pad,
+            vram,
+            regs,
+            journal,
+            ring,
+            x,
+            groups,
+            from,
+            to,
+            k,
+        );
         if x.answer != 0 {
             return x;
         }
@@ -127,6 +151,7 @@ fn move_bytes(
     vram: &mut [u8],
     regs: &mut [u8],
     journal: &mut [u32],
+    ring: &mut [usize],
     m: Now,
     groups: u8,
     n: u16,
@@ -134,19 +159,31 @@ fn move_bytes(
     to: Target,
 ) -> Now
     requires { ⌜ IsPad pad × IsVram vram × IsRegs regs ⌝ }
-    ensures { λ r. ⌜ Does (moveBytes n 0 (originOf from) (targetOf to)) (Image image & Map map & Groups groups & Pad pad & Vram vram & Regs regs & Journal journal) m r ⌝ }
+    ensures { λ r. ⌜ Does (moveBytes n 0 (originOf from) (targetOf to)) (Image image & Map map & Groups groups & Pad pad & Vram vram & Regs regs & Journal journal & Ring ring) m r ⌝ }
 {
-    let book = m.book;
-    if !book.ring {
+    if ring.len() < 2 {
         if let Target::Video(t) = to {
             match from {
-                Origin::Grom(a) => return grom_bytes(image, map, vram, journal, m, n, a, t),
-                Origin::Cpu(a) => return pad_bytes(pad, vram, journal, m, n, a, t),
-                Origin::Vdp(a) => return vdp_bytes(vram, journal, m, n, a, t),
+                Origin::Grom(a) => return grom_bytes(image, map, vram, journal, ring, m, n, a, t),
+                Origin::Cpu(a) => return pad_bytes(pad, vram, journal, ring, m, n, a, t),
+                Origin::Vdp(a) => return vdp_bytes(vram, journal, ring, m, n, a, t),
             }
         }
     }
-    any_bytes(image, map, pad, vram, regs, journal, m, groups, n, from, to)
+    any_bytes(
+        image,
+        map,
+        pad,
+        vram,
+        regs,
+        journal,
+        ring,
+        m,
+        groups,
+        n,
+        from,
+        to,
+    )
 }
 
 // By the low five bits of the opcode: 4 to RAM, 3 a register, 2 a source operand, 1 an index, 0 an immediate length.
@@ -157,22 +194,23 @@ pub fn move_block(
     vram: &mut [u8],
     regs: &mut [u8],
     journal: &mut [u32],
+    ring: &mut [usize],
     m: Now,
     groups: u8,
     bits: u8,
 ) -> Now
     requires { ⌜ IsPad pad × IsVram vram × IsRegs regs ⌝ }
-    ensures { λ r. ⌜ Does (moveRule bits) (Image image & Map map & Groups groups & Pad pad & Vram vram & Regs regs & Journal journal) m r ⌝ }
+    ensures { λ r. ⌜ Does (moveRule bits) (Image image & Map map & Groups groups & Pad pad & Vram vram & Regs regs & Journal journal & Ring ring) m r ⌝ }
 {
     let imm = number::bits::bit(0, bits);
     let x = number::bits::bit(1, bits);
     let placed = number::bits::bit(2, bits);
     let register = number::bits::bit(3, bits);
     let ram = number::bits::bit(4, bits);
-    let l = operand::values::source(image, map, pad, vram, journal, m, imm, true);
-    let to = ends::move_target(image, map, pad, journal, l, ram, register);
-    let from = ends::move_source(image, map, pad, journal, to.now, placed, x);
-    let pushed = operand::stacks::push_pc(pad, journal, from.now);
+    let l = operand::values::source(image, map, pad, vram, journal, ring, m, imm, true);
+    let to = ends::move_target(image, map, pad, journal, ring, l, ram, register);
+    let from = ends::move_source(image, map, pad, journal, ring, to.now, placed, x);
+    let pushed = operand::stacks::push_pc(pad, journal, ring, from.now);
     let origin = from.origin;
     let target = to.target;
     let count = move_count(l.word);
@@ -183,11 +221,12 @@ pub fn move_block(
         vram,
         regs,
         journal,
+        ring,
         pushed,
         groups,
         count,
         origin,
         target,
     );
-    operand::stacks::pop_pc(pad, journal, moved)
+    operand::stacks::pop_pc(pad, journal, ring, moved)
 }

@@ -7,7 +7,7 @@ use operand::status;
 ghost use Prim.Native.Nat.{_<_};
 ghost use Rattle.rules.specs.Coincidence;
 ghost use Rattle.rules.specs.Coincidence.{lookUp, coincRule};
-ghost use Rattle.machine.specs.Meaning.{_&_, Does, Gives, Image, IsPad, IsVram, Journal, Map, Pad, Vram};
+ghost use Rattle.machine.specs.Meaning.{_&_, Does, Gives, Image, IsPad, IsVram, Journal, Map, Pad, Ring, Vram};
 
 // At most 7, also of a machine that has refused it: a shift by it is always sound.
 fn granularity(image: &[u8], map: &mut [u8], m: Now) -> Now
@@ -25,6 +25,7 @@ fn look_up(
     map: &mut [u8],
     pad: &mut [u8],
     journal: &mut [u32],
+    ring: &mut [usize],
     m: Now,
     t: u16,
     g: u16,
@@ -32,12 +33,12 @@ fn look_up(
     b: u16,
 ) -> Now
     requires { ⌜ IsPad pad × (g < 8) ⌝ }
-    ensures { λ r. ⌜ Does (lookUp t g a b) (Image image & Map map & Pad pad & Journal journal) m r ⌝ }
+    ensures { λ r. ⌜ Does (lookUp t g a b) (Image image & Map map & Pad pad & Journal journal & Ring ring) m r ⌝ }
 {
-    let pushed = stacks::push_pc(pad, journal, m);
+    let pushed = stacks::push_pc(pad, journal, ring, m);
     let found = table::in_table(image, map, pushed, t, g, a, b);
-    let stored = status::set_condition(pad, journal, found.now, found.met);
-    stacks::pop_pc(pad, journal, stored)
+    let stored = status::set_condition(pad, journal, ring, found.now, found.met);
+    stacks::pop_pc(pad, journal, ring, stored)
 }
 
 // The destination is read before the source.
@@ -47,14 +48,26 @@ pub fn coinc(
     pad: &mut [u8],
     vram: &[u8],
     journal: &mut [u32],
+    ring: &mut [usize],
     m: Now,
 ) -> Now
     requires { ⌜ IsPad pad × IsVram vram ⌝ }
-    ensures { λ r. ⌜ Does coincRule (Image image & Map map & Pad pad & Vram vram & Journal journal) m r ⌝ }
+    ensures { λ r. ⌜ Does coincRule (Image image & Map map & Pad pad & Vram vram & Journal journal & Ring ring) m r ⌝ }
 {
-    let a = operand::values::operand_value(image, map, pad, vram, journal, m, true);
-    let b = operand::values::operand_value(image, map, pad, vram, journal, a, true);
+    let a = operand::values::operand_value(image, map, pad, vram, journal, ring, m, true);
+    let b = operand::values::operand_value(image, map, pad, vram, journal, ring, a, true);
     let g = granularity(image, map, b);
     let t = machine::grom::next_word(image, map, g);
-    look_up(image, map, pad, journal, t, t.word, g.word, a.word, b.word)
+    look_up(
+        image,
+        map,
+        pad,
+        journal,
+        ring,
+        t,
+        t.word,
+        g.word,
+        a.word,
+        b.word,
+    )
 }

@@ -4,7 +4,7 @@ use machine::state::Now;
 ghost use mathlib.Core.Path.{_≡_};
 ghost use Rattle.rules.specs.Arithmetic;
 ghost use Rattle.rules.specs.Instructions.{testRule};
-ghost use Rattle.machine.specs.Meaning.{_&_, Does, IsPad, Journal, Pad};
+ghost use Rattle.machine.specs.Meaning.{_&_, Does, IsPad, Journal, Pad, Ring};
 ghost use Rattle.flow.specs.Meaning.{testOf};
 
 // H, GT, CARRY, OVF: by the status bit that they test.
@@ -27,11 +27,11 @@ fn tested(t: Test, s: u8) -> bool
     }
 }
 
-pub fn test_status(pad: &mut [u8], journal: &mut [u32], m: Now, t: Test) -> Now
+pub fn test_status(pad: &mut [u8], journal: &mut [u32], ring: &mut [usize], m: Now, t: Test) -> Now
     requires { ⌜ IsPad pad ⌝ }
-    ensures { λ r. ⌜ Does (testRule (testOf t)) (Pad pad & Journal journal) m r ⌝ }
+    ensures { λ r. ⌜ Does (testRule (testOf t)) (Pad pad & Journal journal & Ring ring) m r ⌝ }
 {
     let s = machine::pad::peek_pad(pad, m, cells::STATUS);
     let b = number::sums::with_condition(tested(t, s.byte), s.byte);
-    machine::pad::poke_pad(pad, journal, s, cells::STATUS, b)
+    machine::pad::poke_pad(pad, journal, ring, s, cells::STATUS, b)
 }

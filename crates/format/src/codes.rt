@@ -10,7 +10,7 @@ ghost use Rattle.rules.specs.Rules.{give};
 ghost use Rattle.rules.specs.Format;
 ghost use Rattle.rules.specs.Format.{on, count, openBlock, closeBlock, repeatBlock, blockTurn};
 ghost use Rattle.rules.specs.Format.{endInside, endOutside, endCode, gromBias, operandBias, lastRow, codeRule, fmtRule};
-ghost use Rattle.machine.specs.Meaning.{_&_, Does, Image, IsPad, IsVram, Journal, Map, Nothing, Pad, Vram};
+ghost use Rattle.machine.specs.Meaning.{_&_, Does, Image, IsPad, IsVram, Journal, Map, Nothing, Pad, Ring, Vram};
 ghost use Rattle.format.specs.Meaning.{Turns};
 
 const MOST_CODES: u16 = 16384;
@@ -37,15 +37,23 @@ fn go_on(m: Now, bias: u8, blocks: u16) -> Turn
 // ---- blocks
 
 // The stack pointer up by 2, and there 256 minus the count.
-fn open_block(pad: &mut [u8], journal: &mut [u32], m: Now, n: u16, bias: u8, blocks: u16) -> Turn
+fn open_block(
+    pad: &mut [u8],
+    journal: &mut [u32],
+    ring: &mut [usize],
+    m: Now,
+    n: u16,
+    bias: u8,
+    blocks: u16,
+) -> Turn
     requires { ⌜ IsPad pad × (0 < n) × (n ≤ 32) × (blocks ≤ 16384) ⌝ }
-    ensures { λ r. ⌜ (r .blocks ≤ blocks + 1) × Turns (openBlock n bias blocks) (Pad pad & Journal journal) m r ⌝ }
+    ensures { λ r. ⌜ (r .blocks ≤ blocks + 1) × Turns (openBlock n bias blocks) (Pad pad & Journal journal & Ring ring) m r ⌝ }
 {
-    let p = operand::stacks::raise(pad, journal, m);
+    let p = operand::stacks::raise(pad, journal, ring, m);
     let at = p.byte as usize;
     let rest = 256 - n;
     let b = rest as u8;
-    let stored = machine::pad::poke_pad(pad, journal, p, at, b);
+    let stored = machine::pad::poke_pad(pad, journal, ring, p, at, b);
     let more = blocks + 1;
     go_on(stored, bias, more)
 }
@@ -60,12 +68,20 @@ fn lowered(p: u8) -> u8
     p - 2
 }
 
-fn close_block(pad: &mut [u8], journal: &mut [u32], m: Now, p: u8, bias: u8, blocks: u16) -> Turn
+fn close_block(
+    pad: &mut [u8],
+    journal: &mut [u32],
+    ring: &mut [usize],
+    m: Now,
+    p: u8,
+    bias: u8,
+    blocks: u16,
+) -> Turn
     requires { ⌜ IsPad pad × (0 < blocks) ⌝ }
-    ensures { λ r. ⌜ (r .blocks ≤ blocks + 1) × Turns (closeBlock p bias blocks) (Pad pad & Journal journal) m r ⌝ }
+    ensures { λ r. ⌜ (r .blocks ≤ blocks + 1) × Turns (closeBlock p bias blocks) (Pad pad & Journal journal & Ring ring) m r ⌝ }
 {
     let down = lowered(p);
-    let stored = machine::pad::poke_pad(pad, journal, m, cells::SUB_POINTER, down);
+    let stored = machine::pad::poke_pad(pad, journal, ring, m, cells::SUB_POINTER, down);
     let fewer = blocks - 1;
     go_on(stored, bias, fewer)
 }
@@ -81,6 +97,7 @@ fn repeat_block(m: Now, a: u16, bias: u8, blocks: u16) -> Turn
 fn block_turn(
     pad: &mut [u8],
     journal: &mut [u32],
+    ring: &mut [usize],
     m: Now,
     n: u8,
     p: u8,
@@ -89,10 +106,10 @@ fn block_turn(
     blocks: u16,
 ) -> Turn
     requires { ⌜ IsPad pad × (0 < blocks) ⌝ }
-    ensures { λ r. ⌜ (r .blocks ≤ blocks + 1) × Turns (blockTurn n p a bias blocks) (Pad pad & Journal journal) m r ⌝ }
+    ensures { λ r. ⌜ (r .blocks ≤ blocks + 1) × Turns (blockTurn n p a bias blocks) (Pad pad & Journal journal & Ring ring) m r ⌝ }
 {
     if n == 0 {
-        return close_block(pad, journal, m, p, bias, blocks);
+        return close_block(pad, journal, ring, m, p, bias, blocks);
     }
     repeat_block(m, a, bias, blocks)
 }
@@ -104,27 +121,28 @@ fn end_inside(
     map: &mut [u8],
     pad: &mut [u8],
     journal: &mut [u32],
+    ring: &mut [usize],
     m: Now,
     bias: u8,
     blocks: u16,
 ) -> Turn
     requires { ⌜ IsPad pad × (0 < blocks) ⌝ }
-    ensures { λ r. ⌜ (r .blocks ≤ blocks + 1) × Turns (endInside bias blocks) (Image image & Map map & Pad pad & Journal journal) m r ⌝ }
+    ensures { λ r. ⌜ (r .blocks ≤ blocks + 1) × Turns (endInside bias blocks) (Image image & Map map & Pad pad & Journal journal & Ring ring) m r ⌝ }
 {
     let a = machine::grom::next_word(image, map, m);
     let p = machine::pad::peek_pad(pad, a, cells::SUB_POINTER);
     let at = p.byte as usize;
     let n = machine::pad::peek_pad(pad, p, at);
     let up = std::num::wrapping_add_u8(n.byte, 1);
-    let stored = machine::pad::poke_pad(pad, journal, n, at, up);
-    block_turn(pad, journal, stored, up, p.byte, a.word, bias, blocks)
+    let stored = machine::pad::poke_pad(pad, journal, ring, n, at, up);
+    block_turn(pad, journal, ring, stored, up, p.byte, a.word, bias, blocks)
 }
 
-fn end_outside(pad: &mut [u8], journal: &mut [u32], m: Now) -> Turn
+fn end_outside(pad: &mut [u8], journal: &mut [u32], ring: &mut [usize], m: Now) -> Turn
     requires { ⌜ IsPad pad ⌝ }
-    ensures { λ r. ⌜ (r .blocks ≡ 0) × Turns endOutside (Pad pad & Journal journal) m r ⌝ }
+    ensures { λ r. ⌜ (r .blocks ≡ 0) × Turns endOutside (Pad pad & Journal journal & Ring ring) m r ⌝ }
 {
-    let settled = cursor::settle_cursor(pad, journal, m);
+    let settled = cursor::settle_cursor(pad, journal, ring, m);
     Turn {
         now: settled,
         going: false,
@@ -138,17 +156,18 @@ fn end_code(
     map: &mut [u8],
     pad: &mut [u8],
     journal: &mut [u32],
+    ring: &mut [usize],
     m: Now,
     bias: u8,
     blocks: u16,
 ) -> Turn
     requires { ⌜ IsPad pad ⌝ }
-    ensures { λ r. ⌜ (r .blocks ≤ blocks + 1) × Turns (endCode bias blocks) (Image image & Map map & Pad pad & Journal journal) m r ⌝ }
+    ensures { λ r. ⌜ (r .blocks ≤ blocks + 1) × Turns (endCode bias blocks) (Image image & Map map & Pad pad & Journal journal & Ring ring) m r ⌝ }
 {
     if blocks == 0 {
-        return end_outside(pad, journal, m);
+        return end_outside(pad, journal, ring, m);
     }
-    end_inside(image, map, pad, journal, m, bias, blocks)
+    end_inside(image, map, pad, journal, ring, m, bias, blocks)
 }
 
 // ---- the bias
@@ -165,13 +184,14 @@ fn operand_bias(
     map: &mut [u8],
     pad: &mut [u8],
     journal: &mut [u32],
+    ring: &mut [usize],
     m: Now,
     blocks: u16,
 ) -> Turn
     requires { ⌜ IsPad pad ⌝ }
-    ensures { λ r. ⌜ (r .blocks ≤ blocks + 1) × Turns (operandBias blocks) (Image image & Map map & Pad pad & Journal journal) m r ⌝ }
+    ensures { λ r. ⌜ (r .blocks ≤ blocks + 1) × Turns (operandBias blocks) (Image image & Map map & Pad pad & Journal journal & Ring ring) m r ⌝ }
 {
-    let a = text::cpu_operand(image, map, pad, journal, m);
+    let a = text::cpu_operand(image, map, pad, journal, ring, m);
     let at = a.word as usize;
     let b = machine::pad::peek_pad(pad, a, at);
     go_on(b, b.byte, blocks)
@@ -194,28 +214,29 @@ fn text_code(
     pad: &mut [u8],
     vram: &mut [u8],
     journal: &mut [u32],
+    ring: &mut [usize],
     m: Now,
     bias: u8,
     blocks: u16,
     c: u8,
 ) -> Turn
     requires { ⌜ IsPad pad × IsVram vram × (c < 0x80) ⌝ }
-    ensures { λ r. ⌜ (r .blocks ≤ blocks + 1) × Turns (codeRule bias blocks c) (Image image & Map map & Pad pad & Vram vram & Journal journal) m r ⌝ }
+    ensures { λ r. ⌜ (r .blocks ≤ blocks + 1) × Turns (codeRule bias blocks c) (Image image & Map map & Pad pad & Vram vram & Journal journal & Ring ring) m r ⌝ }
 {
     let n = count_of(c);
     if c < 0x20 {
-        let across = text::text(image, map, pad, vram, journal, m, n, 1, bias);
+        let across = text::text(image, map, pad, vram, journal, ring, m, n, 1, bias);
         return go_on(across, bias, blocks);
     }
     if c < 0x40 {
-        let down = text::text(image, map, pad, vram, journal, m, n, 32, bias);
+        let down = text::text(image, map, pad, vram, journal, ring, m, n, 32, bias);
         return go_on(down, bias, blocks);
     }
     if c < 0x60 {
-        let across = text::repeat_text(image, map, pad, vram, journal, m, n, 1, bias);
+        let across = text::repeat_text(image, map, pad, vram, journal, ring, m, n, 1, bias);
         return go_on(across, bias, blocks);
     }
-    let down = text::repeat_text(image, map, pad, vram, journal, m, n, 32, bias);
+    let down = text::repeat_text(image, map, pad, vram, journal, ring, m, n, 32, bias);
     go_on(down, bias, blocks)
 }
 
@@ -226,32 +247,33 @@ fn last_row(
     pad: &mut [u8],
     vram: &mut [u8],
     journal: &mut [u32],
+    ring: &mut [usize],
     m: Now,
     bias: u8,
     blocks: u16,
     c: u8,
 ) -> Turn
     requires { ⌜ IsPad pad × IsVram vram ⌝ }
-    ensures { λ r. ⌜ (r .blocks ≤ blocks + 1) × Turns (lastRow bias blocks c) (Image image & Map map & Pad pad & Vram vram & Journal journal) m r ⌝ }
+    ensures { λ r. ⌜ (r .blocks ≤ blocks + 1) × Turns (lastRow bias blocks c) (Image image & Map map & Pad pad & Vram vram & Journal journal & Ring ring) m r ⌝ }
 {
     if c < 0xFB {
-        let shown = text::operand_text(image, map, pad, vram, journal, m, count_of(c), bias);
+        let shown = text::operand_text(image, map, pad, vram, journal, ring, m, count_of(c), bias);
         return go_on(shown, bias, blocks);
     }
     if c < 0xFC {
-        return end_code(image, map, pad, journal, m, bias, blocks);
+        return end_code(image, map, pad, journal, ring, m, bias, blocks);
     }
     if c < 0xFD {
         return grom_bias(image, map, m, blocks);
     }
     if c < 0xFE {
-        return operand_bias(image, map, pad, journal, m, blocks);
+        return operand_bias(image, map, pad, journal, ring, m, blocks);
     }
     if c < 0xFF {
-        let row = cursor::cursor_code(image, map, pad, journal, m, cells::ROW);
+        let row = cursor::cursor_code(image, map, pad, journal, ring, m, cells::ROW);
         return go_on(row, bias, blocks);
     }
-    let column = cursor::cursor_code(image, map, pad, journal, m, cells::COLUMN);
+    let column = cursor::cursor_code(image, map, pad, journal, ring, m, cells::COLUMN);
     go_on(column, bias, blocks)
 }
 
@@ -261,31 +283,32 @@ fn by_code(
     pad: &mut [u8],
     vram: &mut [u8],
     journal: &mut [u32],
+    ring: &mut [usize],
     m: Now,
     bias: u8,
     blocks: u16,
     c: u8,
 ) -> Turn
     requires { ⌜ IsPad pad × IsVram vram × (blocks ≤ 16384) ⌝ }
-    ensures { λ r. ⌜ (r .blocks ≤ blocks + 1) × Turns (codeRule bias blocks c) (Image image & Map map & Pad pad & Vram vram & Journal journal) m r ⌝ }
+    ensures { λ r. ⌜ (r .blocks ≤ blocks + 1) × Turns (codeRule bias blocks c) (Image image & Map map & Pad pad & Vram vram & Journal journal & Ring ring) m r ⌝ }
 {
     let n = count_of(c);
     if c < 0x80 {
-        return text_code(image, map, pad, vram, journal, m, bias, blocks, c);
+        return text_code(image, map, pad, vram, journal, ring, m, bias, blocks, c);
     }
     if c < 0xA0 {
-        let across = cursor::skip(pad, journal, m, n);
+        let across = cursor::skip(pad, journal, ring, m, n);
         return go_on(across, bias, blocks);
     }
     if c < 0xC0 {
         let cells = n * 32;
-        let down = cursor::skip(pad, journal, m, cells);
+        let down = cursor::skip(pad, journal, ring, m, cells);
         return go_on(down, bias, blocks);
     }
     if c < 0xE0 {
-        return open_block(pad, journal, m, n, bias, blocks);
+        return open_block(pad, journal, ring, m, n, bias, blocks);
     }
-    last_row(image, map, pad, vram, journal, m, bias, blocks, c)
+    last_row(image, map, pad, vram, journal, ring, m, bias, blocks, c)
 }
 
 fn code(
@@ -294,15 +317,27 @@ fn code(
     pad: &mut [u8],
     vram: &mut [u8],
     journal: &mut [u32],
+    ring: &mut [usize],
     m: Now,
     bias: u8,
     blocks: u16,
 ) -> Turn
     requires { ⌜ IsPad pad × IsVram vram × (blocks ≤ 16384) ⌝ }
-    ensures { λ r. ⌜ (r .blocks ≤ blocks + 1) × Turns (Format.code bias blocks) (Image image & Map map & Pad pad & Vram vram & Journal journal) m r ⌝ }
+    ensures { λ r. ⌜ (r .blocks ≤ blocks + 1) × Turns (Format.code bias blocks) (Image image & Map map & Pad pad & Vram vram & Journal journal & Ring ring) m r ⌝ }
 {
     let c = machine::grom::next_byte(image, map, m);
-    by_code(image, map, pad, vram, journal, c, bias, blocks, c.byte)
+    by_code(
+        image,
+        map,
+        pad,
+        vram,
+        journal,
+        ring,
+        c,
+        bias,
+        blocks,
+        c.byte,
+    )
 }
 
 // At most 16,384 codes: the next is refused before it is read.
@@ -312,17 +347,18 @@ pub fn format(
     pad: &mut [u8],
     vram: &mut [u8],
     journal: &mut [u32],
+    ring: &mut [usize],
     m: Now,
 ) -> Now
     requires { ⌜ IsPad pad × IsVram vram ⌝ }
-    ensures { λ r. ⌜ Does fmtRule (Image image & Map map & Pad pad & Vram vram & Journal journal) m r ⌝ }
+    ensures { λ r. ⌜ Does fmtRule (Image image & Map map & Pad pad & Vram vram & Journal journal & Ring ring) m r ⌝ }
 {
     let mut x = m;
     let mut bias: u8 = 0;
     let mut blocks: u16 = 0;
     let mut left: u16 = MOST_CODES;
     while 0 < left {
-        let t = code(image, map, pad, vram, journal, x, bias, blocks);
+        let t = code(image, map, pad, vram, journal, ring, x, bias, blocks);
         x = t.now;
         if x.answer != 0 {
             return x;

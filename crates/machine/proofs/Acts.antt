@@ -92,6 +92,10 @@ module _ {pc : ℕ} {z : Answer} {m : Mem} {y : List ℕ} (h : z .number ≡ 0) 
 
 -- ---- loads and stores, over the memory
 
+-- the book that stands in a machine
+abbrev pub bookIn : Mem → Book
+bookIn x = record { used = x .used; older = x .older; place = x .place; ring = x .ring }
+
 cells-with : (k : Memory) (c j : List ℕ) (d : Book) (x : Mem) → cells (kindOf k) (with k c j d x) ≡ c
 cells-with Cpu c j d x = refl
 cells-with Vdp c j d x = refl

@@ -15,6 +15,7 @@ use Rattle.rules.specs.Answers.{Answer, saying}
 use Rattle.rules.specs.Calls as calls
 use Rattle.rules.specs.Journal.{turned}
 use Rattle.ring.specs.declared.book.Book.{Book}
+use Rattle.ring.specs.Meaning.{bookOf}
 use Rattle.machine.specs.declared.state.Now.{Now}
 use Rattle.machine.specs.declared.answers.Why.{Why}
 use Rattle.machine.specs.declared.answers.Why.the-variants.{Ended, NoSuch, NeedsHost, OffCpu, OffVdp, OffGrom, OffStack, TooLong, NoRoom, WrongLength, NoRecord, OffRegister, TooCoarse, ReadOnly, OutputFull}
@@ -67,13 +68,13 @@ answerOf n = saying (n .answer) (n .address)
 abbrev pub memOf : List ℕ → ℕ → List ℕ → List ℕ → List ℕ → List ℕ → Book → Mem
 memOf i w p v g j b = mem i w p v g (turned (b .ring) (b .place) j) (b .used) (b .older) (b .place) (b .ring)
 
--- the same with no book
-abbrev pub unbooked : List ℕ → ℕ → List ℕ → List ℕ → List ℕ → List ℕ → Mem
-unbooked i w p v g j = mem i w p v g j 0 0 0 false
+-- the same with no book but two numbers, which a plain journal has and nobody reads
+abbrev pub unbooked : List ℕ → ℕ → List ℕ → List ℕ → List ℕ → List ℕ → ℕ → ℕ → Mem
+unbooked i w p v g j o a = mem i w p v g j 0 o a false
 
--- the state beside them, and the map
-abbrev pub standing : List ℕ → List ℕ → ℕ → List ℕ → List ℕ → List ℕ → List ℕ → Now → Stand
-standing i z w p v g j n = stand (answerOf n) (n .pc) (memOf i w p v g j (n .book)) z
+-- the state beside them, and beside the map, the ring or those two numbers
+abbrev pub standing : List ℕ → List ℕ → ℕ → List ℕ → List ℕ → List ℕ → List ℕ → List ℕ → ℕ → ℕ → Now → Stand
+standing i z w p v g j r o a n = stand (answerOf n) (n .pc) (memOf i w p v g j (bookOf r o a (n .used))) z
 
 -- from s the rule goes to t, and gives a; what it reads is marked
 pub record Goes {A : Type 0} (s : Stand) (r : Rule A) (a : A) (t : Stand) : Type 0 where
@@ -87,19 +88,19 @@ pub record Owes {A : Type 0} (s : Stand) (r : Rule A) (t : Stand) (q : Rule A) :
 
 -- ---- the states that the code makes
 
-abbrev pub began : ℕ → Book → Now
-began pc b = record { pc = pc; book = b; answer = 0; address = 0; byte = 0; word = 0 }
+abbrev pub began : ℕ → ℕ → Now
+began pc u = record { pc = pc; used = u; answer = 0; address = 0; byte = 0; word = 0 }
 
 abbrev pub refusedBy : Answer → Now → Now
-refusedBy a n = record { pc = n .pc; book = n .book; answer = a .number; address = a .address; byte = 0; word = 0 }
+refusedBy a n = record { pc = n .pc; used = n .used; answer = a .number; address = a .address; byte = 0; word = 0 }
 
 -- a byte read, and where pc is then
 abbrev pub readBy : ℕ → ℕ → Now → Now
-readBy pc b n = record { pc = pc; book = n .book; answer = n .answer; address = n .address; byte = b; word = 0 }
+readBy pc b n = record { pc = pc; used = n .used; answer = n .answer; address = n .address; byte = b; word = 0 }
 
--- the journal's book after a change
-abbrev pub keptBy : Book → Now → Now
-keptBy b n = record { pc = n .pc; book = b; answer = n .answer; address = n .address; byte = 0; word = 0 }
+-- so many of the journal's words are used after a change
+abbrev pub keptBy : ℕ → Now → Now
+keptBy u n = record { pc = n .pc; used = u; answer = n .answer; address = n .address; byte = 0; word = 0 }
 
 -- ---- what a contract says
 
@@ -125,27 +126,32 @@ pub record Parts : Type 0 where
   pub vram : Part
   pub regs : Part
   pub journal : Part
+  pub ring : Part
 
 -- the parts that a function is lent, by what they were and what they are: for a loop, whose invariant has the lists themselves
 abbrev pub imageFrom : List ℕ → List ℕ → Parts → Parts
-imageFrom was is l = record { image = lent was is; map = l .map; groups = l .groups; pad = l .pad; vram = l .vram; regs = l .regs; journal = l .journal }
+imageFrom was is l = record { image = lent was is; map = l .map; groups = l .groups; pad = l .pad; vram = l .vram; regs = l .regs; journal = l .journal; ring = l .ring }
 
 abbrev pub mapFrom : List ℕ → List ℕ → Parts → Parts
-mapFrom was is l = record { image = l .image; map = lent was is; groups = l .groups; pad = l .pad; vram = l .vram; regs = l .regs; journal = l .journal }
+mapFrom was is l = record { image = l .image; map = lent was is; groups = l .groups; pad = l .pad; vram = l .vram; regs = l .regs; journal = l .journal; ring = l .ring }
 
 abbrev pub padFrom : List ℕ → List ℕ → Parts → Parts
-padFrom was is l = record { image = l .image; map = l .map; groups = l .groups; pad = lent was is; vram = l .vram; regs = l .regs; journal = l .journal }
+padFrom was is l = record { image = l .image; map = l .map; groups = l .groups; pad = lent was is; vram = l .vram; regs = l .regs; journal = l .journal; ring = l .ring }
 
 abbrev pub vramFrom : List ℕ → List ℕ → Parts → Parts
-vramFrom was is l = record { image = l .image; map = l .map; groups = l .groups; pad = l .pad; vram = lent was is; regs = l .regs; journal = l .journal }
+vramFrom was is l = record { image = l .image; map = l .map; groups = l .groups; pad = l .pad; vram = lent was is; regs = l .regs; journal = l .journal; ring = l .ring }
 
 abbrev pub regsFrom : List ℕ → List ℕ → Parts → Parts
-regsFrom was is l = record { image = l .image; map = l .map; groups = l .groups; pad = l .pad; vram = l .vram; regs = lent was is; journal = l .journal }
+regsFrom was is l = record { image = l .image; map = l .map; groups = l .groups; pad = l .pad; vram = l .vram; regs = lent was is; journal = l .journal; ring = l .ring }
 
 abbrev pub journalFrom : List ℕ → List ℕ → Parts → Parts
-journalFrom was is l = record { image = l .image; map = l .map; groups = l .groups; pad = l .pad; vram = l .vram; regs = l .regs; journal = lent was is }
+journalFrom was is l = record { image = l .image; map = l .map; groups = l .groups; pad = l .pad; vram = l .vram; regs = l .regs; journal = lent was is; ring = l .ring }
 
--- and as a contract has them: `Pad pad & Journal journal`
+abbrev pub ringFrom : List ℕ → List ℕ → Parts → Parts
+ringFrom was is l =
+    record { image = l .image; map = l .map; groups = l .groups; pad = l .pad; vram = l .vram; regs = l .regs; journal = l .journal; ring = lent was is }
+
+-- and as a contract has them: `Pad pad & Journal journal & Ring ring`
 abbrev pub Image : Lent → Parts → Parts
 Image s l = imageFrom (now (s .entry)) (now (s .exit)) l
 
@@ -164,8 +170,12 @@ Regs s l = regsFrom (now (s .entry)) (now (s .exit)) l
 abbrev pub Journal : Lent → Parts → Parts
 Journal s l = journalFrom (now (s .entry)) (now (s .exit)) l
 
+-- the ring beside it, which a plain journal has not: an empty one is lent
+abbrev pub Ring : Lent → Parts → Parts
+Ring s l = ringFrom (now (s .entry)) (now (s .exit)) l
+
 abbrev pub Groups : ℕ → Parts → Parts
-Groups w l = record { image = l .image; map = l .map; groups = named w; pad = l .pad; vram = l .vram; regs = l .regs; journal = l .journal }
+Groups w l = record { image = l .image; map = l .map; groups = named w; pad = l .pad; vram = l .vram; regs = l .regs; journal = l .journal; ring = l .ring }
 
 abbrev pub Nothing : Parts → Parts
 Nothing l = l
@@ -175,7 +185,7 @@ abbrev pub _&_ : (Parts → Parts) → (Parts → Parts) → Parts → Parts
 _&_ f g l = f (g l)
 
 abbrev pub unseenAll : Parts
-unseenAll = record { image = unseen; map = unseen; groups = unnamed; pad = unseen; vram = unseen; regs = unseen; journal = unseen }
+unseenAll = record { image = unseen; map = unseen; groups = unnamed; pad = unseen; vram = unseen; regs = unseen; journal = unseen; ring = unseen }
 
 -- the same with no map: where nothing is said of it
 abbrev pub unmapped : Parts
@@ -221,27 +231,34 @@ abbrev pub memAfter : (q : Parts) → Rest q → Book → Mem
 memAfter q w b =
     memOf (after′ (q .image) (w .image)) (groupsIn (q .groups) (w .groups)) (after′ (q .pad) (w .pad)) (after′ (q .vram) (w .vram)) (after′ (q .regs) (w .regs)) (after′ (q .journal) (w .journal)) b
 
-abbrev pub start : (q : Parts) → Rest q → Now → Stand
-start q w m = stand (answerOf m) (m .pc) (memBefore q w (m .book)) (before (q .map) (w .map))
+-- and of its book what the state has not: the ring, where it is not lent, and a plain journal's two numbers, which are any and stay
+pub record Around (q : Parts) : Type 0 where
+  pub rest : Rest q
+  pub ring : Unseen (q .ring)
+  pub older : ℕ
+  pub place : ℕ
 
-abbrev pub end : (q : Parts) → Rest q → Now → Stand
-end q w n = stand (answerOf n) (n .pc) (memAfter q w (n .book)) (after′ (q .map) (w .map))
+abbrev pub start : (q : Parts) → Around q → Now → Stand
+start q w m = stand (answerOf m) (m .pc) (memBefore q (w .rest) (bookOf (before (q .ring) (w .ring)) (w .older) (w .place) (m .used))) (before (q .map) (w .rest .map))
+
+abbrev pub end : (q : Parts) → Around q → Now → Stand
+end q w n = stand (answerOf n) (n .pc) (memAfter q (w .rest) (bookOf (after′ (q .ring) (w .ring)) (w .older) (w .place) (n .used))) (after′ (q .map) (w .rest .map))
 
 -- m goes in, n comes out, and a value: whatever the rest of the machine is, the rule goes from what was lent to what is left, and gives the value
 abbrev pub Gives : {A : Type 0} → A → Rule A → (Parts → Parts) → Now → Now → Type 0
-Gives a r f m n = (rest : Rest (f unseenAll)) → Goes (start (f unseenAll) rest m) r a (end (f unseenAll) rest n)
+Gives a r f m n = (rest : Around (f unseenAll)) → Goes (start (f unseenAll) rest m) r a (end (f unseenAll) rest n)
 
 abbrev pub Does : Deed → (Parts → Parts) → Now → Now → Type 0
 Does r f m n = Gives tt r f m n
 
 -- in a loop's invariant: of the whole, from m, this is left to do, from n
 abbrev pub Leaves : {A : Type 0} → Rule A → Rule A → (Parts → Parts) → Now → Now → Type 0
-Leaves r q f m n = (rest : Rest (f unseenAll)) → Owes (start (f unseenAll) rest m) r (end (f unseenAll) rest n) q
+Leaves r q f m n = (rest : Around (f unseenAll)) → Owes (start (f unseenAll) rest m) r (end (f unseenAll) rest n) q
 
 -- the mark of a step that began at an address, with its flag above it, is taken
 abbrev pub Marks : ℕ → (Parts → Parts) → Now → Now → Type 0
 Marks a f m n =
-    (rest : Rest (f unmapped)) → outOf (end (f unmapped) rest n) ≡ then (outOf (start (f unmapped) rest m)) (λ _ pc₁ m₁. calls.takeMark a pc₁ m₁)
+    (rest : Around (f unmapped)) → outOf (end (f unmapped) rest n) ≡ then (outOf (start (f unmapped) rest m)) (λ _ pc₁ m₁. calls.takeMark a pc₁ m₁)
 
 -- the memories become what a function makes of them, and the journal's book b becomes c
 abbrev pub Became : (Mem → Mem) → (Parts → Parts) → Book → Book → Type 0
@@ -316,17 +333,19 @@ with k c j b m =
     memOf (upon (kindOf k) (m .image) (m .image) (m .image) c) (groupsOf k m) (upon (kindOf k) c (m .pad) (m .pad) (m .pad))
     (upon (kindOf k) (m .vram) c (m .vram) (m .vram)) (upon (kindOf k) (m .regs) (m .regs) c (m .regs)) j b
 
--- a byte is loaded from one of its cells: in any machine that has these, whatever its map is
+-- a byte is loaded from one of its cells: in any machine that has these, by any ring, whatever its map is
 abbrev pub Loads : Memory → ℕ → Lent → Now → Now → Type 0
 Loads k a s m n =
-    (x : Mem) (z : List ℕ) → Goes (stand (answerOf m) (m .pc) (with k (now (s .entry)) (x .journal) (m .book) x) z) (peek (kindOf k) a) (n .byte)
-    (stand (answerOf n) (n .pc) (with k (now (s .entry)) (x .journal) (n .book) x) z)
+    (x : Mem) (r z : List ℕ)
+    → Goes (stand (answerOf m) (m .pc) (with k (now (s .entry)) (x .journal) (bookOf r (x .older) (x .place) (m .used)) x) z) (peek (kindOf k) a) (n .byte)
+    (stand (answerOf n) (n .pc) (with k (now (s .entry)) (x .journal) (bookOf r (x .older) (x .place) (n .used)) x) z)
 
 -- a byte is stored into one
-abbrev pub Stores : Memory → ℕ → ℕ → Lent → Lent → Now → Now → Type 0
-Stores k a b s j m n =
-    (x : Mem) (z : List ℕ) → Goes (stand (answerOf m) (m .pc) (with k (now (s .entry)) (now (j .entry)) (m .book) x) z) (poke (kindOf k) a b) tt
-    (stand (answerOf n) (n .pc) (with k (now (s .exit)) (now (j .exit)) (n .book) x) z)
+abbrev pub Stores : Memory → ℕ → ℕ → Lent → Lent → Lent → Now → Now → Type 0
+Stores k a b s j r m n =
+    (x : Mem) (z : List ℕ)
+    → Goes (stand (answerOf m) (m .pc) (with k (now (s .entry)) (now (j .entry)) (bookOf (now (r .entry)) (x .older) (x .place) (m .used)) x) z) (poke (kindOf k) a b) tt
+    (stand (answerOf n) (n .pc) (with k (now (s .exit)) (now (j .exit)) (bookOf (now (r .exit)) (x .older) (x .place) (n .used)) x) z)
 
 -- a byte is put into a cell, if there is one
 abbrev pub Puts : ℕ → ℕ → Lent → Type 0

@@ -9,7 +9,7 @@ ghost use mathlib.Core.Path.{_≡_};
 ghost use Prim.Native.Nat.{_/_};
 ghost use Rattle.rules.specs.Machine.{bit, grom, group};
 ghost use Rattle.rules.specs.Rules.{nextByte, nextWord, gromByte, poke};
-ghost use Rattle.machine.specs.Meaning.{_&_, Does, Gives, Groups, Image, Journal, Map};
+ghost use Rattle.machine.specs.Meaning.{_&_, Does, Gives, Groups, Image, Journal, Map, Ring};
 
 pub fn next_byte(image: &[u8], map: &mut [u8], m: Now) -> Now
     ensures { λ r. ⌜ Gives (r .byte) nextByte (Image image & Map map) m r ⌝ }
@@ -59,9 +59,17 @@ pub fn writable(groups: u8, at: usize) -> bool
     number::bits::bit(g as u32, groups)
 }
 
-pub fn poke_grom(image: &mut [u8], journal: &mut [u32], m: Now, groups: u8, a: u16, b: u8) -> Now
-    ensures { λ r. ⌜ Does (poke grom a b) (Image image & Groups groups & Journal journal) m r ⌝ }
+pub fn poke_grom(
+    image: &mut [u8],
+    journal: &mut [u32],
+    ring: &mut [usize],
+    m: Now,
+    groups: u8,
+    a: u16,
+    b: u8,
+) -> Now
+    ensures { λ r. ⌜ Does (poke grom a b) (Image image & Groups groups & Journal journal & Ring ring) m r ⌝ }
 {
     let at = a as usize;
-    memory::store(image, journal, m, Memory::Grom(groups), at, b)
+    memory::store(image, journal, ring, m, Memory::Grom(groups), at, b)
 }

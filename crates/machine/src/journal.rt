@@ -13,22 +13,22 @@ ghost use Rattle.rules.specs.Machine.{areaOf, flagged};
 ghost use Rattle.ring.specs.declared.book.Book as declared;
 ghost use Rattle.rules.specs.Journal as words;
 ghost use Rattle.rules.specs.Journal.{note, restore, undoTop};
-ghost use Rattle.machine.specs.Meaning.{_&_, Image, Pad, Vram, Regs, Journal, Marks, Puts, Became, Finds};
+ghost use Rattle.machine.specs.Meaning.{_&_, Image, Pad, Vram, Regs, Journal, Ring, Marks, Puts, Became, Finds};
 
 // The mark word of a step that began at `pc` with this source flag.
-pub fn take_mark(journal: &mut [u32], m: Now, pc: u16, source: bool) -> Now
-    ensures { λ r. ⌜ Marks (flagged pc source) (Journal journal) m r ⌝ }
+pub fn take_mark(journal: &mut [u32], ring: &mut [usize], m: Now, pc: u16, source: bool) -> Now
+    ensures { λ r. ⌜ Marks (flagged pc source) (Journal journal & Ring ring) m r ⌝ }
 {
-    let book = m.book;
+    let used = m.used;
     if m.answer != 0 {
         return m;
     }
-    let laid = book::lay_round(journal, book, number::words::mark_of(pc, source));
-    let kept = laid.book;
-    if !laid.done {
-        return state::refused(state::keeping(m, kept), Why::NoRoom);
+    let laid = book::lay_round(journal, ring, used, number::words::mark_of(pc, source));
+    if journal.len() <= laid {
+        return state::refused(state::keeping(m, laid), Why::NoRoom);
     }
-    state::keeping(m, kept)
+    let more = laid + 1;
+    state::keeping(m, more)
 }
 
 // A byte into a cell, if there is one.

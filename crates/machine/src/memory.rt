@@ -83,11 +83,19 @@ pub fn load(memory: &[u8], m: Now, k: Memory, at: usize) -> Now
 }
 
 // The range is tested before the group, and both before the room.
-pub fn store(memory: &mut [u8], journal: &mut [u32], m: Now, k: Memory, at: usize, b: u8) -> Now
+pub fn store(
+    memory: &mut [u8],
+    journal: &mut [u32],
+    ring: &mut [usize],
+    m: Now,
+    k: Memory,
+    at: usize,
+    b: u8,
+) -> Now
     requires { ⌜ IsOf k memory × IsNear k at ⌝ }
-    ensures { λ r. ⌜ Stores k at b memory journal m r ⌝ }
+    ensures { λ r. ⌜ Stores k at b memory journal ring m r ⌝ }
 {
-    let book = m.book;
+    let used = m.used;
     let limit = reach(k, memory.len());
     let why = outside(k, at);
     let allowed = may_store(k, at);
@@ -102,11 +110,11 @@ pub fn store(memory: &mut [u8], journal: &mut [u32], m: Now, k: Memory, at: usiz
     }
     let old = memory[at];
     let a = at as u32;
-    let laid = book::lay(journal, book, number::words::pack(kind(k), a, old));
-    let kept = laid.book;
-    if !laid.done {
-        return state::refused(state::keeping(m, kept), Why::NoRoom);
+    let laid = book::lay(journal, ring, used, number::words::pack(kind(k), a, old));
+    if journal.len() <= laid {
+        return state::refused(state::keeping(m, laid), Why::NoRoom);
     }
     memory[at] = b;
-    state::keeping(m, kept)
+    let more = laid + 1;
+    state::keeping(m, more)
 }

@@ -1,17 +1,15 @@
 // The state, and the few functions that make one; a value given, a jump and a need.
 use crate::answers;
 use crate::answers::Why;
-use ring::book;
-use ring::book::Book;
 ghost use mathlib.Core.Path.{_≡_};
 ghost use Rattle.rules.specs.Answers.{answerFor};
 ghost use Rattle.rules.specs.Rules;
 ghost use Rattle.rules.specs.Rules.{give, goto};
 ghost use Rattle.machine.specs.Meaning.{Does, Gives, Nothing, whyOf, began, refusedBy, readBy, keptBy};
 
-// The journal's book, pc, the word or the byte that was read last, and the answer so far with its address.
+// How many of the journal's words are used, pc, the word or the byte that was read last, and the answer so far with its address.
 pub struct Now {
-    pub book: Book,
+    pub used: usize,
     pub pc: u16,
     pub word: u16,
     pub address: u16,
@@ -20,12 +18,12 @@ pub struct Now {
 }
 
 // The state in which a step begins.
-pub fn begin(pc: u16, book: Book) -> Now
-    ensures { λ r. ⌜ r ≡ began pc book ⌝ }
+pub fn begin(pc: u16, used: usize) -> Now
+    ensures { λ r. ⌜ r ≡ began pc used ⌝ }
 {
     Now {
         pc,
-        book,
+        used,
         answer: 0,
         address: 0,
         byte: 0,
@@ -36,10 +34,9 @@ pub fn begin(pc: u16, book: Book) -> Now
 pub fn refused(m: Now, why: Why) -> Now
     ensures { λ r. ⌜ r ≡ refusedBy (answerFor (whyOf why)) m ⌝ }
 {
-    let book = book::afresh(m.book);
     Now {
         pc: m.pc,
-        book,
+        used: m.used,
         answer: answers::number(why),
         address: answers::address(why),
         byte: 0,
@@ -51,10 +48,9 @@ pub fn refused(m: Now, why: Why) -> Now
 pub fn read(m: Now, pc: u16, b: u8) -> Now
     ensures { λ r. ⌜ r ≡ readBy pc b m ⌝ }
 {
-    let book = book::afresh(m.book);
     Now {
         pc,
-        book,
+        used: m.used,
         answer: m.answer,
         address: m.address,
         byte: b,
@@ -62,14 +58,13 @@ pub fn read(m: Now, pc: u16, b: u8) -> Now
     }
 }
 
-// The journal has changed: its book does.
-pub fn keeping(m: Now, book: Book) -> Now
-    ensures { λ r. ⌜ r ≡ keptBy book m ⌝ }
+// The journal has changed: so many of its words are used.
+pub fn keeping(m: Now, used: usize) -> Now
+    ensures { λ r. ⌜ r ≡ keptBy used m ⌝ }
 {
-    let kept = book::afresh(book);
     Now {
         pc: m.pc,
-        book: kept,
+        used,
         answer: m.answer,
         address: m.address,
         byte: 0,
@@ -87,10 +82,9 @@ pub fn give_byte(m: Now, b: u8) -> Now
 pub fn give_word(m: Now, w: u16) -> Now
     ensures { λ r. ⌜ (r .word ≡ w) × Gives (r .word) (give w) Nothing m r ⌝ }
 {
-    let book = book::afresh(m.book);
     Now {
         pc: m.pc,
-        book,
+        used: m.used,
         answer: m.answer,
         address: m.address,
         byte: 0,

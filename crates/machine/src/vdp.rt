@@ -7,7 +7,7 @@ ghost use Prim.Native.Nat.{_<_, _^_};
 ghost use Rattle.rules.specs.Machine.{vdp};
 ghost use Rattle.rules.specs.Rules.{peek, peekWord, poke};
 ghost use Rattle.rules.specs.Operands.{pokeWord};
-ghost use Rattle.machine.specs.Meaning.{_&_, Does, Gives, IsVram, Journal, Vram};
+ghost use Rattle.machine.specs.Meaning.{_&_, Does, Gives, IsVram, Journal, Ring, Vram};
 
 pub fn peek_vdp(vram: &[u8], m: Now, at: usize) -> Now
     requires { ⌜ IsVram vram ⌝ }
@@ -16,11 +16,18 @@ pub fn peek_vdp(vram: &[u8], m: Now, at: usize) -> Now
     memory::load(vram, m, Memory::Vdp, at)
 }
 
-pub fn poke_vdp(vram: &mut [u8], journal: &mut [u32], m: Now, at: usize, b: u8) -> Now
+pub fn poke_vdp(
+    vram: &mut [u8],
+    journal: &mut [u32],
+    ring: &mut [usize],
+    m: Now,
+    at: usize,
+    b: u8,
+) -> Now
     requires { ⌜ IsVram vram ⌝ }
-    ensures { λ r. ⌜ Does (poke vdp at b) (Vram vram & Journal journal) m r ⌝ }
+    ensures { λ r. ⌜ Does (poke vdp at b) (Vram vram & Journal journal & Ring ring) m r ⌝ }
 {
-    memory::store(vram, journal, m, Memory::Vdp, at, b)
+    memory::store(vram, journal, ring, m, Memory::Vdp, at, b)
 }
 
 pub fn peek_vdp_word(vram: &[u8], m: Now, at: usize) -> Now
@@ -34,13 +41,20 @@ pub fn peek_vdp_word(vram: &[u8], m: Now, at: usize) -> Now
 }
 
 // High byte first, each byte a store of its own.
-pub fn poke_vdp_word(vram: &mut [u8], journal: &mut [u32], m: Now, at: usize, w: u16) -> Now
+pub fn poke_vdp_word(
+    vram: &mut [u8],
+    journal: &mut [u32],
+    ring: &mut [usize],
+    m: Now,
+    at: usize,
+    w: u16,
+) -> Now
     requires { ⌜ IsVram vram × (at < 2 ^ 32) ⌝ }
-    ensures { λ r. ⌜ Does (pokeWord vdp at w) (Vram vram & Journal journal) m r ⌝ }
+    ensures { λ r. ⌜ Does (pokeWord vdp at w) (Vram vram & Journal journal & Ring ring) m r ⌝ }
 {
     let high = number::words::high_of(w);
     let low = number::words::low_of(w);
-    let first = poke_vdp(vram, journal, m, at, high);
+    let first = poke_vdp(vram, journal, ring, m, at, high);
     let beyond = at + 1;
-    poke_vdp(vram, journal, first, beyond, low)
+    poke_vdp(vram, journal, ring, first, beyond, low)
 }

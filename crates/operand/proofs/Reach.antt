@@ -35,11 +35,11 @@ module _ (n : ℕ) (c : Cell) {a : Answer} {pc : ℕ} {m : Mem} {y : List ℕ} w
   reached-out z h e = refuses _ z e h
 
 -- an operand as the code takes it apart, by its place and its state
-pub apart : {w : ℕ} {i p v g : List ℕ} (j : List ℕ) {z : List ℕ} {s : Stand} {n : Now} {l : Place} {r : Rule Cell} (q : Operand)
-    → Goes s r (cellOf (placeOf q)) (standing i z w p v g j (nowOf q)) → n ≡ nowOf q → l ≡ placeOf q → Goes s r (cellOf l) (standing i z w p v g j n)
-apart {w = w} {i = i} {p = p} {v = v} {g = g} j {z = z} {s = s} {l = l} {r = r} q e en el =
-    subst (λ (x : Now). Goes s r (cellOf l) (standing i z w p v g j x)) (sym en)
-    (subst (λ (y : Place). Goes s r (cellOf y) (standing i z w p v g j (nowOf q))) (sym el) e)
+pub apart : {w : ℕ} {i p v g : List ℕ} (j d : List ℕ) (o a : ℕ) {z : List ℕ} {s : Stand} {n : Now} {l : Place} {r : Rule Cell} (q : Operand)
+    → Goes s r (cellOf (placeOf q)) (standing i z w p v g j d o a (nowOf q)) → n ≡ nowOf q → l ≡ placeOf q → Goes s r (cellOf l) (standing i z w p v g j d o a n)
+apart {w = w} {i = i} {p = p} {v = v} {g = g} j d o a {z = z} {s = s} {l = l} {r = r} q e en el =
+    subst (λ (x : Now). Goes s r (cellOf l) (standing i z w p v g j d o a x)) (sym en)
+    (subst (λ (y : Place). Goes s r (cellOf y) (standing i z w p v g j d o a (nowOf q))) (sym el) e)
 
 -- the last byte of a byte is itself
 pub byte-ends : (a : ℕ) → eqb a 0x7D ≡ eqb (a + 0) 0x7D

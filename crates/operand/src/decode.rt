@@ -13,7 +13,7 @@ ghost use mathlib.Core.Path.{_≡_};
 ghost use Prim.Native.Nat.{_+_, _-_, _≤_};
 ghost use Rattle.rules.specs.Operands;
 ghost use Rattle.rules.specs.Operands.{onDataStack, operandOf};
-ghost use Rattle.machine.specs.Meaning.{_&_, Gives, Image, IsPad, Journal, Map, Nothing, Pad};
+ghost use Rattle.machine.specs.Meaning.{_&_, Gives, Image, IsPad, Journal, Map, Nothing, Pad, Ring};
 ghost use Rattle.operand.specs.Meaning.{cellOf, placeOf, Locates, Names};
 
 // ---- the offset
@@ -103,35 +103,43 @@ fn down(b: u8) -> u8
 }
 
 // A pop off the data stack: the pointer's test, its store, and the cell.
-fn pop_cell(pad: &mut [u8], journal: &mut [u32], m: Now) -> Located
+fn pop_cell(pad: &mut [u8], journal: &mut [u32], ring: &mut [usize], m: Now) -> Located
     requires { ⌜ IsPad pad ⌝ }
-    ensures { λ r. ⌜ Names Operands.popCell (Pad pad & Journal journal) m r ⌝ }
+    ensures { λ r. ⌜ Names Operands.popCell (Pad pad & Journal journal & Ring ring) m r ⌝ }
 {
     let p = cpu::peek_pad(pad, m, cells::DATA_POINTER);
     let top = p.byte as u16;
     let tested = state::need(p, on_data_stack(top), Why::OffStack);
     let below = down(p.byte);
-    let lowered = cpu::poke_pad(pad, journal, tested, cells::DATA_POINTER, below);
+    let lowered = cpu::poke_pad(pad, journal, ring, tested, cells::DATA_POINTER, below);
     Located {
         place: Place::Cpu(top),
         now: lowered,
     }
 }
 
-fn through_pad(pad: &mut [u8], journal: &mut [u32], m: Now, a: u16) -> Located
+fn through_pad(pad: &mut [u8], journal: &mut [u32], ring: &mut [usize], m: Now, a: u16) -> Located
     requires { ⌜ IsPad pad ⌝ }
-    ensures { λ r. ⌜ Names (Operands.throughPad a) (Pad pad & Journal journal) m r ⌝ }
+    ensures { λ r. ⌜ Names (Operands.throughPad a) (Pad pad & Journal journal & Ring ring) m r ⌝ }
 {
     if a as usize == cells::STATUS {
-        return pop_cell(pad, journal, m);
+        return pop_cell(pad, journal, ring, m);
     }
     through_byte(pad, m, a)
 }
 
 // By the bits V and I.
-fn named(pad: &mut [u8], journal: &mut [u32], m: Now, v: bool, i: bool, a: u16) -> Located
+fn named(
+    pad: &mut [u8],
+    journal: &mut [u32],
+    ring: &mut [usize],
+    m: Now,
+    v: bool,
+    i: bool,
+    a: u16,
+) -> Located
     requires { ⌜ IsPad pad ⌝ }
-    ensures { λ r. ⌜ Names (Operands.named v i a) (Pad pad & Journal journal) m r ⌝ }
+    ensures { λ r. ⌜ Names (Operands.named v i a) (Pad pad & Journal journal & Ring ring) m r ⌝ }
 {
     if v {
         if i {
@@ -143,7 +151,7 @@ fn named(pad: &mut [u8], journal: &mut [u32], m: Now, v: bool, i: bool, a: u16) 
         };
     }
     if i {
-        return through_pad(pad, journal, m, a);
+        return through_pad(pad, journal, ring, m, a);
     }
     Located {
         place: Place::Cpu(a),
@@ -157,17 +165,19 @@ fn far_cell(
     map: &mut [u8],
     pad: &mut [u8],
     journal: &mut [u32],
+    ring: &mut [usize],
     m: Now,
     b: u8,
 ) -> Located
     requires { ⌜ IsPad pad ⌝ }
-    ensures { λ r. ⌜ Names (Operands.farCell b) (Image image & Map map & Pad pad & Journal journal) m r ⌝ }
+    ensures { λ r. ⌜ Names (Operands.farCell b) (Image image & Map map & Pad pad & Journal journal & Ring ring) m r ⌝ }
 {
     let a = offset(image, map, m, number::bits::nibble(b));
     let e = indexed(image, map, pad, a, number::bits::bit(6, b), a.word);
     named(
         pad,
         journal,
+        ring,
         e,
         number::bits::bit(5, b),
         number::bits::bit(4, b),
@@ -180,11 +190,12 @@ fn any_cell(
     map: &mut [u8],
     pad: &mut [u8],
     journal: &mut [u32],
+    ring: &mut [usize],
     m: Now,
     b: u8,
 ) -> Located
     requires { ⌜ IsPad pad ⌝ }
-    ensures { λ r. ⌜ Names (Operands.anyCell b) (Image image & Map map & Pad pad & Journal journal) m r ⌝ }
+    ensures { λ r. ⌜ Names (Operands.anyCell b) (Image image & Map map & Pad pad & Journal journal & Ring ring) m r ⌝ }
 {
     if b < 0x80 {
         let near = b as u16;
@@ -193,7 +204,7 @@ fn any_cell(
             now: m,
         };
     }
-    far_cell(image, map, pad, journal, m, b)
+    far_cell(image, map, pad, journal, ring, m, b)
 }
 
 // ---- the operand
@@ -218,14 +229,15 @@ pub fn operand(
     map: &mut [u8],
     pad: &mut [u8],
     journal: &mut [u32],
+    ring: &mut [usize],
     m: Now,
     n: usize,
 ) -> Operand
     requires { ⌜ IsPad pad × (n ≤ 2) ⌝ }
-    ensures { λ r. ⌜ (cellOf (placeOf r) .at + n ≤ 16384) × Locates (operandOf n) (Image image & Map map & Pad pad & Journal journal) m r ⌝ }
+    ensures { λ r. ⌜ (cellOf (placeOf r) .at + n ≤ 16384) × Locates (operandOf n) (Image image & Map map & Pad pad & Journal journal & Ring ring) m r ⌝ }
 {
     let first = grom::next_byte(image, map, m);
-    let cell = any_cell(image, map, pad, journal, first, first.byte);
+    let cell = any_cell(image, map, pad, journal, ring, first, first.byte);
     let now = cell.now;
     let place = cell.place;
     answered(now, place, n)

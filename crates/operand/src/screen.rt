@@ -6,7 +6,7 @@ use machine::state::Now;
 use machine::vdp;
 ghost use Prim.Native.Nat.{_<_};
 ghost use Rattle.rules.specs.Operands;
-ghost use Rattle.machine.specs.Meaning.{_&_, Does, Gives, IsPad, IsVram, Journal, Pad, Vram};
+ghost use Rattle.machine.specs.Meaning.{_&_, Does, Gives, IsPad, IsVram, Journal, Pad, Ring, Vram};
 
 // The position that row and column name. Also of a machine that has refused it is below 8,192: a sum with a step fits.
 pub fn position(pad: &[u8], m: Now) -> Now
@@ -27,20 +27,33 @@ pub fn screen_byte(pad: &[u8], vram: &[u8], m: Now) -> Now
     vdp::peek_vdp(vram, p, at)
 }
 
-pub fn to_screen(pad: &[u8], vram: &mut [u8], journal: &mut [u32], m: Now, b: u8) -> Now
+pub fn to_screen(
+    pad: &[u8],
+    vram: &mut [u8],
+    journal: &mut [u32],
+    ring: &mut [usize],
+    m: Now,
+    b: u8,
+) -> Now
     requires { ⌜ IsPad pad × IsVram vram ⌝ }
-    ensures { λ r. ⌜ Does (Operands.toScreen b) (Pad pad & Vram vram & Journal journal) m r ⌝ }
+    ensures { λ r. ⌜ Does (Operands.toScreen b) (Pad pad & Vram vram & Journal journal & Ring ring) m r ⌝ }
 {
     let p = position(pad, m);
     let at = p.word as usize;
-    vdp::poke_vdp(vram, journal, p, at, b)
+    vdp::poke_vdp(vram, journal, ring, p, at, b)
 }
 
 // The screen byte into the character buffer.
-pub fn load_buffer(pad: &mut [u8], vram: &[u8], journal: &mut [u32], m: Now) -> Now
+pub fn load_buffer(
+    pad: &mut [u8],
+    vram: &[u8],
+    journal: &mut [u32],
+    ring: &mut [usize],
+    m: Now,
+) -> Now
     requires { ⌜ IsPad pad × IsVram vram ⌝ }
-    ensures { λ r. ⌜ Does Operands.loadBuffer (Pad pad & Vram vram & Journal journal) m r ⌝ }
+    ensures { λ r. ⌜ Does Operands.loadBuffer (Pad pad & Vram vram & Journal journal & Ring ring) m r ⌝ }
 {
     let b = screen_byte(pad, vram, m);
-    cpu::poke_pad(pad, journal, b, cells::BUFFER, b.byte)
+    cpu::poke_pad(pad, journal, ring, b, cells::BUFFER, b.byte)
 }

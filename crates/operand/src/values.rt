@@ -15,7 +15,7 @@ ghost use Rattle.rules.specs.Rules.{give, peek, peekWord, poke};
 ghost use Rattle.rules.specs.Operands;
 ghost use Rattle.rules.specs.Operands.{byteCount, past, isBuffer, pokeWord};
 ghost use Rattle.rules.specs.Arithmetic.{half, span};
-ghost use Rattle.machine.specs.Meaning.{_&_, Does, Gives, Image, IsPad, IsVram, Journal, Map, Nothing, Pad, Vram};
+ghost use Rattle.machine.specs.Meaning.{_&_, Does, Gives, Image, IsPad, IsVram, Journal, Map, Nothing, Pad, Ring, Vram};
 ghost use Rattle.operand.specs.Meaning.{cellOf};
 
 // How many bytes a width has.
@@ -83,12 +83,19 @@ pub fn standing(pad: &[u8], vram: &[u8], m: Now, wide: bool, place: Place) -> No
 }
 
 // A read whose first byte is the character buffer first stores the screen byte there.
-fn refresh(pad: &mut [u8], vram: &[u8], journal: &mut [u32], m: Now, place: Place) -> Now
+fn refresh(
+    pad: &mut [u8],
+    vram: &[u8],
+    journal: &mut [u32],
+    ring: &mut [usize],
+    m: Now,
+    place: Place,
+) -> Now
     requires { ⌜ IsPad pad × IsVram vram ⌝ }
-    ensures { λ r. ⌜ Does (Operands.refresh (cellOf place)) (Pad pad & Vram vram & Journal journal) m r ⌝ }
+    ensures { λ r. ⌜ Does (Operands.refresh (cellOf place)) (Pad pad & Vram vram & Journal journal & Ring ring) m r ⌝ }
 {
     if places::is_buffer(place) {
-        return screen::load_buffer(pad, vram, journal, m);
+        return screen::load_buffer(pad, vram, journal, ring, m);
     }
     m
 }
@@ -98,14 +105,15 @@ pub fn value(
     pad: &mut [u8],
     vram: &[u8],
     journal: &mut [u32],
+    ring: &mut [usize],
     m: Now,
     wide: bool,
     place: Place,
 ) -> Now
     requires { ⌜ IsPad pad × IsVram vram ⌝ }
-    ensures { λ r. ⌜ (r .word < span (half wide)) × Gives (r .word) (Operands.value wide (cellOf place)) (Pad pad & Vram vram & Journal journal) m r ⌝ }
+    ensures { λ r. ⌜ (r .word < span (half wide)) × Gives (r .word) (Operands.value wide (cellOf place)) (Pad pad & Vram vram & Journal journal & Ring ring) m r ⌝ }
 {
-    let fresh = refresh(pad, vram, journal, m, place);
+    let fresh = refresh(pad, vram, journal, ring, m, place);
     standing(pad, vram, fresh, wide, place)
 }
 
@@ -115,21 +123,22 @@ fn store_byte(
     pad: &mut [u8],
     vram: &mut [u8],
     journal: &mut [u32],
+    ring: &mut [usize],
     m: Now,
     place: Place,
     b: u8,
 ) -> Now
     requires { ⌜ IsPad pad × IsVram vram ⌝ }
-    ensures { λ r. ⌜ Does (poke (cellOf place .kind) (cellOf place .at) b) (Pad pad & Vram vram & Journal journal) m r ⌝ }
+    ensures { λ r. ⌜ Does (poke (cellOf place .kind) (cellOf place .at) b) (Pad pad & Vram vram & Journal journal & Ring ring) m r ⌝ }
 {
     match place {
         Place::Cpu(a) => {
             let at = a as usize;
-            cpu::poke_pad(pad, journal, m, at, b)
+            cpu::poke_pad(pad, journal, ring, m, at, b)
         }
         Place::Vdp(a) => {
             let at = a as usize;
-            vdp::poke_vdp(vram, journal, m, at, b)
+            vdp::poke_vdp(vram, journal, ring, m, at, b)
         }
     }
 }
@@ -138,21 +147,22 @@ fn store_word(
     pad: &mut [u8],
     vram: &mut [u8],
     journal: &mut [u32],
+    ring: &mut [usize],
     m: Now,
     place: Place,
     w: u16,
 ) -> Now
     requires { ⌜ IsPad pad × IsVram vram ⌝ }
-    ensures { λ r. ⌜ Does (pokeWord (cellOf place .kind) (cellOf place .at) w) (Pad pad & Vram vram & Journal journal) m r ⌝ }
+    ensures { λ r. ⌜ Does (pokeWord (cellOf place .kind) (cellOf place .at) w) (Pad pad & Vram vram & Journal journal & Ring ring) m r ⌝ }
 {
     match place {
         Place::Cpu(a) => {
             let at = a as usize;
-            cpu::poke_pad_word(pad, journal, m, at, w)
+            cpu::poke_pad_word(pad, journal, ring, m, at, w)
         }
         Place::Vdp(a) => {
             let at = a as usize;
-            vdp::poke_vdp_word(vram, journal, m, at, w)
+            vdp::poke_vdp_word(vram, journal, ring, m, at, w)
         }
     }
 }
@@ -161,19 +171,20 @@ fn store_value(
     pad: &mut [u8],
     vram: &mut [u8],
     journal: &mut [u32],
+    ring: &mut [usize],
     m: Now,
     wide: bool,
     place: Place,
     v: u16,
 ) -> Now
     requires { ⌜ IsPad pad × IsVram vram ⌝ }
-    ensures { λ r. ⌜ Does (Operands.storeValue wide (cellOf place) v) (Pad pad & Vram vram & Journal journal) m r ⌝ }
+    ensures { λ r. ⌜ Does (Operands.storeValue wide (cellOf place) v) (Pad pad & Vram vram & Journal journal & Ring ring) m r ⌝ }
 {
     if wide {
-        return store_word(pad, vram, journal, m, place, v);
+        return store_word(pad, vram, journal, ring, m, place, v);
     }
     let b = number::words::low_of(v);
-    store_byte(pad, vram, journal, m, place, b)
+    store_byte(pad, vram, journal, ring, m, place, b)
 }
 
 // The last byte of a result is the character buffer.
@@ -197,16 +208,17 @@ fn echo(
     pad: &[u8],
     vram: &mut [u8],
     journal: &mut [u32],
+    ring: &mut [usize],
     m: Now,
     wide: bool,
     place: Place,
     b: u8,
 ) -> Now
     requires { ⌜ IsPad pad × IsVram vram ⌝ }
-    ensures { λ r. ⌜ Does (Operands.echo (past (byteCount wide - 1) (cellOf place)) b) (Pad pad & Vram vram & Journal journal) m r ⌝ }
+    ensures { λ r. ⌜ Does (Operands.echo (past (byteCount wide - 1) (cellOf place)) b) (Pad pad & Vram vram & Journal journal & Ring ring) m r ⌝ }
 {
     if ends_in_buffer(wide, place) {
-        return screen::to_screen(pad, vram, journal, m, b);
+        return screen::to_screen(pad, vram, journal, ring, m, b);
     }
     m
 }
@@ -216,17 +228,18 @@ pub fn result(
     pad: &mut [u8],
     vram: &mut [u8],
     journal: &mut [u32],
+    ring: &mut [usize],
     m: Now,
     wide: bool,
     place: Place,
     v: u16,
 ) -> Now
     requires { ⌜ IsPad pad × IsVram vram ⌝ }
-    ensures { λ r. ⌜ Does (Operands.result wide (cellOf place) v) (Pad pad & Vram vram & Journal journal) m r ⌝ }
+    ensures { λ r. ⌜ Does (Operands.result wide (cellOf place) v) (Pad pad & Vram vram & Journal journal & Ring ring) m r ⌝ }
 {
-    let stored = store_value(pad, vram, journal, m, wide, place, v);
+    let stored = store_value(pad, vram, journal, ring, m, wide, place, v);
     let low = number::words::low_of(v);
-    echo(pad, vram, journal, stored, wide, place, low)
+    echo(pad, vram, journal, ring, stored, wide, place, low)
 }
 
 // ---- sources
@@ -237,15 +250,16 @@ pub fn operand_value(
     pad: &mut [u8],
     vram: &[u8],
     journal: &mut [u32],
+    ring: &mut [usize],
     m: Now,
     wide: bool,
 ) -> Now
     requires { ⌜ IsPad pad × IsVram vram ⌝ }
-    ensures { λ r. ⌜ (r .word < span (half wide)) × Gives (r .word) (Operands.operandValue wide) (Image image & Map map & Pad pad & Vram vram & Journal journal) m r ⌝ }
+    ensures { λ r. ⌜ (r .word < span (half wide)) × Gives (r .word) (Operands.operandValue wide) (Image image & Map map & Pad pad & Vram vram & Journal journal & Ring ring) m r ⌝ }
 {
-    let o = decode::operand(image, map, pad, journal, m, byte_count(wide));
+    let o = decode::operand(image, map, pad, journal, ring, m, byte_count(wide));
     let at = places::now_of(o);
-    value(pad, vram, journal, at, wide, places::place_of(o))
+    value(pad, vram, journal, ring, at, wide, places::place_of(o))
 }
 
 // The bytes at pc.
@@ -265,15 +279,16 @@ pub fn source(
     pad: &mut [u8],
     vram: &[u8],
     journal: &mut [u32],
+    ring: &mut [usize],
     m: Now,
     imm: bool,
     wide: bool,
 ) -> Now
     requires { ⌜ IsPad pad × IsVram vram ⌝ }
-    ensures { λ r. ⌜ (r .word < span (half wide)) × Gives (r .word) (Operands.source imm wide) (Image image & Map map & Pad pad & Vram vram & Journal journal) m r ⌝ }
+    ensures { λ r. ⌜ (r .word < span (half wide)) × Gives (r .word) (Operands.source imm wide) (Image image & Map map & Pad pad & Vram vram & Journal journal & Ring ring) m r ⌝ }
 {
     if imm {
         return immediate(image, map, m, wide);
     }
-    operand_value(image, map, pad, vram, journal, m, wide)
+    operand_value(image, map, pad, vram, journal, ring, m, wide)
 }

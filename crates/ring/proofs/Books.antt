@@ -8,16 +8,16 @@ use native.Mathlib.Nat.{not-suc-le-zero, mod-add-mod}
 use native.Mathlib.Numerals.{add-one}
 use native.Mathlib.Omega.{arith}
 use lib.Dec.{ltb}
-use lib.ListN.{length, getD, set, take, drop}
+use lib.ListN.{length, getD, set, take, drop, length-set}
 use lib.Seq.{take-append-le, take-all, take-nil, length-take-le}
 use borrow.Author.Tests.{lt-ltb, le-ltb, ne-eqb}
 use Rattle.rules.specs.Machine.{pick, _also_, Mem, mem, beside}
 use Rattle.rules.specs.Journal.{turned, lay, zeroTop, marks, untilMark, oldest, olderWords, forget}
 use Rattle.rules.specs.Rules.{room, spare}
 use Rattle.rules.proofs.Forget.{length-forget, until-within, forget-none, forget-more}
-use Rattle.ring.specs.Meaning.{booked, slotOf, Laying}
+use Rattle.ring.specs.Meaning.{booked, oneMore, usedAfter, slotOf, Laying, rings, olderOf, placeOf, bookOf}
 use Rattle.ring.specs.declared.book.Book.{Book}
-use Rattle.ring.proofs.Turned.{length-turned, turned-set, turned-forget}
+use Rattle.ring.proofs.Turned.{length-turned, as-long, no-longer, slot-plain, turned-set, turned-forget}
 
 abbrev book : ℕ → ℕ → ℕ → Bool → Book
 book u o a r = record { used = u; older = o; place = a; ring = r }
@@ -182,28 +182,120 @@ module _ (w : ℕ) (m : Mem) where
   pub lays-none : length (m .journal) ≤ m .used → m .ring ≡ false → Laying w m false m
   lays-none h e = lays-not (ap room (sym (spare-plain m h e)) ∙ le-ltb (m .used) _ h) (spare-plain m h e)
 
-  -- the mode stays: with it the book is the one that was handed back
-  ring-stays : {c : Mem} {d : Bool} → Laying w m d c → c .ring ≡ m .ring
-  unfolding spare _also_
-  ring-stays h = ap (λ (n : Mem). n .ring) (h .1) ∙ go (room (spare m)) (room m) (m .ring also ltb 0 (m .older))
-    where
-      go : (b f o : Bool) → pick b (lay w (pick f m (pick o (forget (oldest (olderWords m)) m) m))) (pick f m (pick o (forget (oldest (olderWords m)) m) m)) .ring ≡ m .ring
-      go true true o = refl
-      go true false true = refl
-      go true false false = refl
-      go false true o = refl
-      go false false true = refl
-      go false false false = refl
+-- ---- a word laid beside a ring
 
-  pub in-mode : (j : List ℕ) (l : Book) (x : Mem) {d : Bool} → Laying w m d (booked j l x) → Laying w m d (booked j (book (l .used) (l .older) (l .place) (m .ring)) x)
-  in-mode j l x {d} h = subst (λ (r : Bool). Laying w m d (booked j (book (l .used) (l .older) (l .place) r) x)) (ring-stays h) h
+-- fewer than two numbers are none
+module _ (w : ℕ) (j : List ℕ) (u : ℕ) (r : List ℕ) (h : length r < 2) (x : Mem) where
+  none : rings r ≡ false
+  unfolding rings
+  none = le-ltb 1 (length r) (omega arith)
 
-  pub done-so : {c : Mem} {d : Bool} → Laying w m d c → d ≡ true → (room (spare m) ≡ true) × (c ≡ lay w (spare m))
-  done-so h e =
-      let z : room (spare m) ≡ true = sym (h .0) ∙ e in
-      (z, rw z at (h .1))
+  abbrev plain : Book
+  plain = bookOf r (x .older) (x .place) u
 
-  pub not-done : {c : Mem} {d : Bool} → Laying w m d c → d ≡ false → (room (spare m) ≡ false) × (c ≡ spare m)
-  not-done h e =
-      let z : room (spare m) ≡ false = sym (h .0) ∙ e in
-      (z, rw z at (h .1))
+  pub plain-full : length j ≤ u → Laying w (booked j plain x) (ltb u (length j)) (booked j (bookOf r (x .older) (x .place) (usedAfter u (length j))) x)
+  plain-full l = rw (le-ltb u (length j) l) (lays-none w (booked j plain x) (no-longer _ _ _ l) none)
+
+  pub plain-laid : u < length j
+      → Laying w (booked j plain x) (ltb u (length (set j u w))) (booked (set j u w) (bookOf r (x .older) (x .place) (usedAfter u (length (set j u w)))) x)
+  plain-laid l =
+      rw (length-set j u w, lt-ltb u (length j) l)
+      (lays-there w (booked j plain x) (as-long _ _ _ l) (laid j plain x u w l (slot-plain _ _ _ _ none)))
+
+-- two are the book's, and are written back
+pub second : (r : List ℕ) (o : ℕ) → 2 ≤ length r → 1 < length (set r 0 o)
+second r o h = rw (length-set r 0 o) h
+
+taken : (r : List ℕ) (o a u : ℕ) → 2 ≤ length r → bookOf r o a u ≡ book u (getD r 0 0) (getD r 1 0) true
+unfolding rings olderOf placeOf
+taken r o a u h = rw (lt-ltb 1 (length r) h)
+
+written : (r : List ℕ) (o a u : ℕ) (s : Book) → 2 ≤ length r → s .ring ≡ true
+    → bookOf (set (set r 0 (s .older)) 1 (s .place)) o a u ≡ book u (s .older) (s .place) (s .ring)
+unfolding rings olderOf placeOf
+written [] o a u s h e = absurd (omega arith)
+written (p ∷ []) o a u s h e = absurd (omega arith)
+written (p ∷ q ∷ r) o a u s h e = rw (e, lt-ltb 1 (length (p ∷ q ∷ r)) h)
+
+-- the mode stays
+spare-mode : (m : Mem) → spare m .ring ≡ m .ring
+unfolding spare
+spare-mode m = go (room m) (m .ring also ltb 0 (m .older))
+  where
+    go : (f o : Bool) → pick f m (pick o (forget (oldest (olderWords m)) m) m) .ring ≡ m .ring
+    go true o = refl
+    go false true = refl
+    go false false = refl
+
+-- so does the length
+laid-long : (w : ℕ) (j j₁ : List ℕ) (b c : Book) (x : Mem) → booked j₁ c x ≡ lay w (booked j b x) → length j₁ ≡ length j
+laid-long w j j₁ b c x e =
+    sym (length-turned (c .ring) (c .place) j₁) ∙ ap (λ (m : Mem). length (m .journal)) e ∙ length-set (turned (b .ring) (b .place) j) (b .used) w
+    ∙ length-turned (b .ring) (b .place) j
+
+used-full : {n r : ℕ} → n ≤ r → r ≡ usedAfter r n
+used-full {n} {r} l = rw (le-ltb r n l)
+
+used-laid : {n r : ℕ} → r < n → r + 1 ≡ usedAfter r n
+used-laid {n} {r} l = rw (lt-ltb r n l)
+
+-- the same, of equal books
+in-words : (w : ℕ) (j j₁ : List ℕ) (x : Mem) {b b₁ c c₁ : Book} {d d₁ : Bool} → b₁ ≡ b → c₁ ≡ c → d ≡ d₁
+    → Laying w (booked j b x) d (booked j₁ c x) → Laying w (booked j b₁ x) d₁ (booked j₁ c₁ x)
+in-words w j j₁ x {b} {b₁} {c} {c₁} {d} {d₁} e f g h =
+    subst (λ (y : Bool). Laying w (booked j b₁ x) y (booked j₁ c₁ x)) g
+    (subst (λ (y : Book). Laying w (booked j b₁ x) d (booked j₁ y x)) (sym f) (subst (λ (y : Book). Laying w (booked j y x) d (booked j₁ c x)) (sym e) h))
+
+module _ (w : ℕ) (j r : List ℕ) (u : ℕ) (x : Mem) (h : 2 ≤ length r) where
+  abbrev ringed : Book
+  ringed = book u (getD r 0 0) (getD r 1 0) true
+
+  abbrev before : Mem
+  before = booked j (bookOf r (x .older) (x .place) u) x
+
+  pub ring-room : (j₁ : List ℕ) → u < length j → booked j₁ (oneMore ringed) x ≡ lay w (booked j ringed x)
+      → Laying w before (ltb u (length j₁)) (booked j₁ (bookOf r (x .older) (x .place) (usedAfter u (length j₁))) x)
+  ring-room j₁ l e =
+      let n : length j₁ ≡ length j = laid-long w j j₁ ringed (oneMore ringed) x e in
+      let l₁ : u < length j₁ = omega arith in
+      in-words w j j₁ x (taken r (x .older) (x .place) u h)
+      (taken r (x .older) (x .place) (usedAfter u (length j₁)) h ∙ ap (λ (y : ℕ). book y (getD r 0 0) (getD r 1 0) true) (sym (used-laid l₁)))
+      (sym (lt-ltb u (length j₁) l₁)) (lays-there w (booked j ringed x) (as-long _ _ _ l) e)
+
+  -- after what was spared
+  module _ (j₁ : List ℕ) (s : Book) (e : booked j₁ s x ≡ spare (booked j ringed x)) where
+    mode : s .ring ≡ true
+    mode = ap (λ (m : Mem). m .ring) e ∙ spare-mode (booked j ringed x)
+
+    abbrev back : List ℕ
+    back = set (set r 0 (s .older)) 1 (s .place)
+
+    kept : {n : ℕ} (k : ℕ) → n ≡ k → bookOf back (x .older) (x .place) k ≡ book n (s .older) (s .place) (s .ring)
+    kept k q = written r (x .older) (x .place) k s h mode ∙ ap (λ (y : ℕ). book y (s .older) (s .place) (s .ring)) (sym q)
+
+    pub ring-full : length j₁ ≤ s .used
+        → Laying w before (ltb (s .used) (length j₁)) (booked j₁ (bookOf back (x .older) (x .place) (usedAfter (s .used) (length j₁))) x)
+    ring-full l =
+        in-words w j j₁ x (taken r (x .older) (x .place) u h) (kept (usedAfter (s .used) (length j₁)) (used-full l)) (sym (le-ltb (s .used) (length j₁) l))
+        (lays-not w (booked j ringed x) (ap room (sym e) ∙ le-ltb _ _ (no-longer _ _ _ l)) e)
+
+    pub ring-laid : (j₂ : List ℕ) → s .used < length j₁ → booked j₂ (oneMore s) x ≡ lay w (booked j₁ s x)
+        → Laying w before (ltb (s .used) (length j₂)) (booked j₂ (bookOf back (x .older) (x .place) (usedAfter (s .used) (length j₂))) x)
+    ring-laid j₂ l f =
+        let n : length j₂ ≡ length j₁ = laid-long w j₁ j₂ s (oneMore s) x f in
+        let l₁ : s .used < length j₂ = omega arith in
+        in-words w j j₂ x (taken r (x .older) (x .place) u h) (kept (usedAfter (s .used) (length j₂)) (used-laid l₁)) (sym (lt-ltb (s .used) (length j₂) l₁))
+        (lays w (booked j ringed x) (ap room (sym e) ∙ lt-ltb _ _ (as-long _ _ _ l)) (f ∙ ap (lay w) e))
+
+-- what was laid, and what was not: by how many words were used before it
+module _ (w r : ℕ) (j is : List ℕ) (m x : Mem)
+    (e : Laying w m (ltb r (length j)) (booked j (bookOf is (x .older) (x .place) (usedAfter r (length j))) x)) where
+  pub done-so : r < length j → (room (spare m) ≡ true) × (booked j (bookOf is (x .older) (x .place) (r + 1)) x ≡ lay w (spare m))
+  done-so l =
+      let z : room (spare m) ≡ true = sym (e .0) ∙ lt-ltb r (length j) l in
+      (z, ap (λ (n : ℕ). booked j (bookOf is (x .older) (x .place) n) x) (used-laid l) ∙ (rw z at (e .1)))
+
+  pub not-done : length j ≤ r → (room (spare m) ≡ false) × (booked j (bookOf is (x .older) (x .place) r) x ≡ spare m)
+  not-done l =
+      let z : room (spare m) ≡ false = sym (e .0) ∙ le-ltb r (length j) l in
+      (z, ap (λ (n : ℕ). booked j (bookOf is (x .older) (x .place) n) x) (used-full l) ∙ (rw z at (e .1)))

@@ -8,7 +8,7 @@ ghost use Rattle.rules.specs.Machine.{Mem};
 ghost use Rattle.rules.specs.Journal;
 ghost use Rattle.rules.specs.Journal.{turned, zeroTop, forget, untilMark, oldest, olderWords};
 ghost use Rattle.rules.specs.Rules;
-ghost use Rattle.ring.specs.Meaning.{slotOf, Becomes, Lays};
+ghost use Rattle.ring.specs.Meaning.{slotOf, oneMore, Becomes, LaysPlain, Lays};
 
 // How many words are used, how many of them are of steps before the one that is being made, the place of the oldest, and whether whole oldest steps are
 // dropped.
@@ -17,25 +17,6 @@ pub struct Book {
     pub older: usize,
     pub place: usize,
     pub ring: bool,
-}
-
-// The book after a word, and whether there was room for it.
-pub struct Laid {
-    pub book: Book,
-    pub done: bool,
-}
-
-// The same book, field by field. A struct that is copied whole is copied with the empty bytes behind its last field, one of the dearest parts of a small
-// step.
-pub fn afresh(b: Book) -> Book
-    ensures { λ r. ⌜ r ≡ b ⌝ }
-{
-    Book {
-        used: b.used,
-        older: b.older,
-        place: b.place,
-        ring: b.ring,
-    }
 }
 
 // A place among n words.
@@ -87,20 +68,12 @@ pub fn word_at(journal: &[u32], b: Book, i: usize) -> u32
 }
 
 // A word laid on the used ones.
-fn put(journal: &mut [u32], b: Book, w: u32) -> Book
+fn put(journal: &mut [u32], b: Book, w: u32)
     requires { ⌜ b .used < length (now journal) ⌝ }
-    ensures { λ r. ⌜ Becomes (Journal.lay w) journal b r ⌝ }
+    ensures { λ _. ⌜ Becomes (Journal.lay w) journal b (oneMore b) ⌝ }
 {
-    let used = b.used;
-    let at = slot(journal.len(), b.ring, b.place, used);
+    let at = slot(journal.len(), b.ring, b.place, b.used);
     journal[at] = w;
-    let more = used + 1;
-    Book {
-        used: more,
-        older: b.older,
-        place: b.place,
-        ring: b.ring,
-    }
 }
 
 // The i-th word set to 0, and those below it used.
@@ -195,53 +168,52 @@ fn spare(journal: &mut [u32], b: Book) -> Book
     forget_oldest(journal, b)
 }
 
-// A word laid, if there is room for it or room can be made.
-pub fn lay_round(journal: &mut [u32], b: Book, w: u32) -> Laid
-    ensures { λ r. ⌜ Lays w journal b r ⌝ }
+// A word laid in a plain journal, if there is room for it. How many words are used before it is handed back, here and below: it was laid where they are fewer
+// than the journal's. A struct would be handed back in memory, and with it the state of a step.
+fn lay_plain(journal: &mut [u32], used: usize, w: u32) -> usize
+    ensures { λ r. ⌜ LaysPlain w journal used r ⌝ }
 {
-    let there = b.used;
-    if there < journal.len() {
-        let book = put(journal, b, w);
-        return Laid { book, done: true };
-    }
-    let spared = spare(journal, b);
-    let used = spared.used;
     if journal.len() <= used {
-        return Laid {
-            book: spared,
-            done: false,
-        };
+        return used;
     }
-    let book = put(journal, spared, w);
-    Laid { book, done: true }
+    journal[used] = w;
+    used
 }
 
-// The same, with the common case in line where a byte is stored. The book of a full ring is lent as a copy, and its mode is not taken from the reply: else
-// the one that goes on would stand in memory at every store, and a loop of stores could not be split by the mode.
-pub fn lay(journal: &mut [u32], b: Book, w: u32) -> Laid
-    ensures { λ r. ⌜ Lays w journal b r ⌝ }
+// The same in either mode: in a ring, room is made. A ring's two numbers are lent beside the journal, and a plain journal is lent none.
+pub fn lay_round(journal: &mut [u32], ring: &mut [usize], used: usize, w: u32) -> usize
+    ensures { λ r. ⌜ Lays w journal ring used r ⌝ }
 {
-    let used = b.used;
-    if used < journal.len() {
-        let book = put(journal, b, w);
-        return Laid { book, done: true };
+    if ring.len() < 2 {
+        return lay_plain(journal, used, w);
     }
-    if !b.ring {
-        return Laid {
-            book: b,
-            done: false,
-        };
-    }
-    let round = lay_round(journal, afresh(b), w);
-    let left = round.book;
-    let book = Book {
-        used: left.used,
-        older: left.older,
-        place: left.place,
-        ring: b.ring,
+    let b = Book {
+        used,
+        older: ring[0],
+        place: ring[1],
+        ring: true,
     };
-    Laid {
-        book,
-        done: round.done,
+    if used < journal.len() {
+        put(journal, b, w);
+        return used;
     }
+    let spared = spare(journal, b);
+    ring[0] = spared.older;
+    ring[1] = spared.place;
+    let there = spared.used;
+    if journal.len() <= there {
+        return there;
+    }
+    put(journal, spared, w);
+    there
+}
+
+// The same, with a plain journal in line where a byte is stored.
+pub fn lay(journal: &mut [u32], ring: &mut [usize], used: usize, w: u32) -> usize
+    ensures { λ r. ⌜ Lays w journal ring used r ⌝ }
+{
+    if ring.len() < 2 {
+        return lay_plain(journal, used, w);
+    }
+    lay_round(journal, ring, used, w)
 }

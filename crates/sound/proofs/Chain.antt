@@ -13,7 +13,7 @@ use Rattle.rules.proofs.Reading as reading
 use Rattle.rules.proofs.Sending as sending
 use Rattle.rules.proofs.Sending.{Quiet, sends-bind, quiet-sends}
 use Rattle.machine.specs.declared.state.Now.{Now}
-use Rattle.machine.specs.Meaning.{outs, Stand, stand, outOf, Goes, Owes, Parts, Rest, unseenAll, start, end}
+use Rattle.machine.specs.Meaning.{outs, Stand, stand, outOf, Goes, Owes, Parts, Around, unseenAll, start, end}
 use Rattle.machine.proofs.Acts as acts
 use Rattle.machine.proofs.Chain as chain
 use Rattle.sound.specs.Meaning.{laid, Lays, sendByte}
@@ -138,7 +138,7 @@ whole e = record { owes = chain.whole e; output = rw e; count = rw e; fits = λ 
 
 -- the same in a loop's invariant, as `Leaves`
 abbrev pub Remains : {A : Type 0} → Rule A → Rule A → (Parts → Parts) → Now → Now → ℕ → ℕ → List ℕ → List ℕ → Type 0
-Remains r q f m n k l o p = (rest : Rest (f unseenAll)) → Left (start (f unseenAll) rest m) r (end (f unseenAll) rest n) q k l o p
+Remains r q f m n k l o p = (rest : Around (f unseenAll)) → Left (start (f unseenAll) rest m) r (end (f unseenAll) rest n) q k l o p
 
 module _ {A B : Type 0} {s t u : Stand} {r q q₁ : Rule A} {v : Rule B} {b : B} {k l n : ℕ} {o p w : List ℕ} where
   -- a turn of a loop

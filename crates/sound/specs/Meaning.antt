@@ -9,7 +9,7 @@ use Rattle.rules.specs.Answers.{outputFull}
 use Rattle.rules.specs.Rules.{Rule, Deed, _>>=_, _>>_, sends, emit, need}
 use Rattle.rules.specs.Sound.{Source, Due, due}
 use Rattle.machine.specs.declared.state.Now.{Now}
-use Rattle.machine.specs.Meaning.{Lent, Parts, Rest, Stand, outOf, Goes, unseenAll, start, end}
+use Rattle.machine.specs.Meaning.{Lent, Parts, Around, Stand, outOf, Goes, unseenAll, start, end}
 use Rattle.sound.specs.declared.list.Sent.{Sent}
 use Rattle.sound.specs.declared.block.Next.{Next}
 use Rattle.sound.specs.declared.tick.Ticked.{Ticked}
@@ -36,7 +36,7 @@ roomIn o = length (now (o .entry))
 
 -- as `Gives`: beside the parts of the machine the output, with how many of its bytes were in use and how many are
 abbrev pub Adds : {A : Type 0} → A → Rule A → (Parts → Parts) → Lent → ℕ → ℕ → Now → Now → Type 0
-Adds a r f o k l m n = (rest : Rest (f unseenAll)) → Lays (start (f unseenAll) rest m) r a (end (f unseenAll) rest n) k l (now (o .entry)) (now (o .exit))
+Adds a r f o k l m n = (rest : Around (f unseenAll)) → Lays (start (f unseenAll) rest m) r a (end (f unseenAll) rest n) k l (now (o .entry)) (now (o .exit))
 
 -- from its first byte on: l bytes are sent
 abbrev pub Plays : {A : Type 0} → A → Rule A → (Parts → Parts) → Lent → ℕ → Now → Now → Type 0

@@ -7,7 +7,7 @@ ghost use mathlib.Core.Path.{_≡_};
 ghost use lib.Dec.{ltb};
 ghost use Rattle.rules.specs.Machine.{_also_};
 ghost use Rattle.rules.specs.Sound.{inPad, startRule};
-ghost use Rattle.machine.specs.Meaning.{_&_, Gives, Image, IsPad, IsVram, Journal, Map, Pad, Vram};
+ghost use Rattle.machine.specs.Meaning.{_&_, Gives, Image, IsPad, IsVram, Journal, Map, Pad, Ring, Vram};
 ghost use Rattle.operand.specs.Meaning.{cellOf};
 
 // The state, and the source flag.
@@ -33,22 +33,23 @@ pub fn start(
     pad: &mut [u8],
     vram: &[u8],
     journal: &mut [u32],
+    ring: &mut [usize],
     m: Now,
     imm: bool,
     wide: bool,
 ) -> Started
     requires { ⌜ IsPad pad × IsVram vram ⌝ }
-    ensures { λ r. ⌜ Gives (r .source) (startRule imm wide) (Image image & Map map & Pad pad & Vram vram & Journal journal) m (r .now) ⌝ }
+    ensures { λ r. ⌜ Gives (r .source) (startRule imm wide) (Image image & Map map & Pad pad & Vram vram & Journal journal & Ring ring) m (r .now) ⌝ }
 {
-    let target = operand::targets::read_target(image, map, pad, vram, journal, m, wide);
+    let target = operand::targets::read_target(image, map, pad, vram, journal, ring, m, wide);
     let read = target.now;
     let place = target.place;
-    let f = operand::values::source(image, map, pad, vram, journal, read, imm, wide);
+    let f = operand::values::source(image, map, pad, vram, journal, ring, read, imm, wide);
     let sound = machine::state::need(f, starts(place, f.word), Why::NeedsHost);
     let at = operand::places::offset_of(place) as usize;
     let a = machine::pad::peek_pad_word(pad, sound, at);
-    let moved = machine::pad::poke_pad_word(pad, journal, a, cells::LIST, a.word);
-    let now = machine::pad::poke_pad(pad, journal, moved, cells::COUNT, 1);
+    let moved = machine::pad::poke_pad_word(pad, journal, ring, a, cells::LIST, a.word);
+    let now = machine::pad::poke_pad(pad, journal, ring, moved, cells::COUNT, 1);
     Started {
         now,
         source: f.word == 1,

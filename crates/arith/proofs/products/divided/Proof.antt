@@ -9,14 +9,14 @@ use Rattle.arith.proofs.products.divided.Tie as tie
 returns : tie.Need-returns
 unfolding divided
 returns c =
-    let at-if1 = c .before .before .before .before .before .before .before in
-    λ _. rw (le-leb _ _ (at-if1 .if1 .taken)) (c .before .before .before .before .div-overflow .ensures _)
+    let at-if1 = c .before .before .before .before .before .before .before .before .before .before in
+    λ _. rw (le-leb _ _ (at-if1 .if1 .taken)) (c .before .before .before .before .before .before .div-overflow .ensures _)
 
 returns-2 : tie.Need-returns-2
 unfolding divided divResults
 returns-2 c =
-    let at-store-halves = c .before .before .before .before .before .before in
-    let at-divide = at-store-halves .before .before .before .before in
+    let at-store-halves = c .before .before .before .before .before .before .before .before in
+    let at-divide = at-store-halves .before .before .before .before .before in
     let at-if1 = at-divide .before in
     λ _. rw (lt-leb _ _ (at-if1 .if1 .left))
     (via₂ (halves _ _) (at-divide .divide .ensures .0) (at-divide .divide .ensures .1)
@@ -24,5 +24,5 @@ returns-2 c =
 
 pub divided-spec : {M : Type 1} → statement M
 divided-spec =
-    tie.close (tie.spec (search needs) (search needs) (search needs) returns (search needs) (search needs) (search needs)
-    (search needs) (search needs) returns-2)
+    tie.close (tie.spec (search needs) (search needs) (search needs) (search needs) returns (search needs) (search needs)
+    (search needs) (search needs) (search needs) (search needs) returns-2)

@@ -1,11 +1,11 @@
--- By the book.
+-- As the state begins.
 use borrow.Author.Needs.{needs}
 use Rattle.bench.proofs.at.begin.Statement.{statement}
 use Rattle.bench.proofs.at.begin.Tie as tie
 
 returns : tie.Need-returns
-returns c = rw (c .before .book .ensures) at (c .begin .ensures)
+returns c = c .begin .ensures
 
 pub begin-spec : {M : Type 1} → statement M
 begin-spec =
-    tie.close (tie.spec (search needs) (search needs) returns)
+    tie.close (tie.spec (search needs) returns)

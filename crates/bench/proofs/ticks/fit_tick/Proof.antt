@@ -1,107 +1,32 @@
--- The mark, then the tick's rule, are the rules' attempt; what it sent stands in the output, or is wiped.
-use mathlib.Core.Path.{_∙_}
-use mathlib.Core.List.{[]}
-use native.Mathlib.Omega.{arith}
-use Rattle.ring.proofs.Turned.{as-long}
-use Rattle.bench.proofs.Steps.{tries, begun, lent-so}
-use Rattle.bench.proofs.Heard.{tick-sends, tick-done, tick-refused}
+-- A ring's two numbers are lent, or none.
 use borrow.Author.Needs.{needs}
 use Rattle.bench.proofs.ticks.fit_tick.Statement.{statement}
 use Rattle.bench.proofs.ticks.fit_tick.Tie as tie
 
-settle-requires : tie.Need-settle-requires
-settle-requires c κs =
-    let at-tick = c .before .before .before .before .before .before .before .before .before .before .before .before in
-    let at-take-mark = at-tick .before .before .before .before .before .before .before .before .before in
-    let at-begin = at-take-mark .before in
-    let start = at-begin .before .before .before .before .before .before .before .before in
-    let lent = start .args in
-    begun (tries {i = lent .image .now} {p = lent .pad .now} {v = lent .vram .now} {g = lent .regs .now} _ {at = lent .at} (at-begin .begin .ensures)
-    (at-take-mark .take-mark .ensures _) (at-tick .tick .ensures _ .goes))
-    (as-long _ _ _ (start .pre .used))
-
-same-length-2 : tie.Need-same-length-2
-same-length-2 c =
-    let at-settle = c .before .before .before .before .before .before .before .before .before .before .before .before .before in
-    let at-tick = at-settle .before .before .before .before .before .before .before .before .before .before .before .before .before in
-    at-settle .settle .kept .1 .0 ∙ at-tick .tick .kept .1 .1 .0
-
-same-length-5 : tie.Need-same-length-5
-same-length-5 c =
-    let at-settle = c .before .before .before .before .before .before .before .before .before .before .before .before .before in
-    let at-tick = at-settle .before .before .before .before .before .before .before .before .before .before .before .before .before in
-    let at-take-mark = at-tick .before .before .before .before .before .before .before .before .before in
-    at-settle .settle .kept .1 .1 .1 .1 .0 ∙ at-tick .tick .kept .1 .1 .1 .1 .0 ∙ at-take-mark .take-mark .kept .0
-
-same-length-6 : tie.Need-same-length-6
-same-length-6 c =
-    let at-tick = c .before .before .before .before .before .before .before .before .before .before .before .before .before .before .before .before .before .before .before .before .before .before .before .before .before .before in
-    at-tick .tick .kept .1 .1 .1 .1 .1 .0
+tick-by-requires : tie.Need-tick-by-requires
+tick-by-requires c κs =
+    let at-if1 = c .before .before .before .before .before .before .before in
+    let start = at-if1 .before .before .before .before .before .before .before in
+    (record { pad = start .pre .pad; vram = start .pre .vram; regs = start .pre .regs; used = start .pre .used }, rw (at-if1 .if1 .taken))
 
 returns : tie.Need-returns
 returns c =
-    let at-settle = c .before .before .before .before .before .before .before .before .before .before .before .before .before in
-    let at-tick = at-settle .before .before .before .before .before .before .before .before .before .before .before .before .before in
-    let at-take-mark = at-tick .before .before .before .before .before .before .before .before .before in
-    let at-begin = at-take-mark .before in
-    let at-slice-known4 = at-begin .before .before .before .before in
-    let at-slice-known3 = at-slice-known4 .before in
-    let at-slice-known2 = at-slice-known3 .before in
-    let at-slice-known = at-slice-known2 .before in
-    let start = at-slice-known .before in
-    λ _. rw (c .sending .ensures) (tick-done (start .args .output .now)
-    (at-settle .settle .ensures _ _ _ _ (lent-so _ (start .pre .used) (omega (arith, start .good .1 .1 .1 .1 .1 .0)) (omega (arith, start .good .1 .1 .1 .1 .1 .0)) (at-slice-known .slice-known .given)
-    (at-slice-known2 .slice-known2 .given) (at-slice-known3 .slice-known3 .given) (at-slice-known4 .slice-known4 .given))
-    (tries _ (at-begin .begin .ensures) (at-take-mark .take-mark .ensures _) (at-tick .tick .ensures _ .goes)))
-    (c .before .if1 .taken) (tick-sends _ _ _ _ _ (start .args .at) (at-begin .begin .ensures) (at-take-mark .take-mark .ensures _) (at-tick .tick .ensures _)))
+    let at-tick-by = c .before .before .before .before .before .before .before .before .before .before .before .before .before in
+    at-tick-by .tick-by .ensures
 
-wipe-requires : tie.Need-wipe-requires
-wipe-requires c κs =
-    let at-tick = c .before .before .before .before .before .before .before .before .before .before .before .before .before .before .before .before .before .before .before .before .before .before .before .before .before .before in
-    omega (
-      arith,
-      at-tick .tick .ensures (record { image = tt; map = tt; groups = 0; pad = tt; vram = tt; regs = []; journal = tt }) .fits (omega arith),
-      at-tick .tick .kept .1 .1 .1 .1 .1 .0,
-    )
-
-same-length-8 : tie.Need-same-length-8
-same-length-8 c =
-    let at-settle = c .before .before .before .before .before .before .before .before .before .before .before .before .before .before .before .before .before in
-    let at-tick = at-settle .before .before .before .before .before .before .before .before .before .before .before .before .before in
-    at-settle .settle .kept .1 .0 ∙ at-tick .tick .kept .1 .1 .0
-
-same-length-11 : tie.Need-same-length-11
-same-length-11 c =
-    let at-settle = c .before .before .before .before .before .before .before .before .before .before .before .before .before .before .before .before .before in
-    let at-tick = at-settle .before .before .before .before .before .before .before .before .before .before .before .before .before in
-    let at-take-mark = at-tick .before .before .before .before .before .before .before .before .before in
-    at-settle .settle .kept .1 .1 .1 .1 .0 ∙ at-tick .tick .kept .1 .1 .1 .1 .0 ∙ at-take-mark .take-mark .kept .0
-
-same-length-12 : tie.Need-same-length-12
-same-length-12 c =
-    let at-tick = c .before .before .before .before .before .before .before .before .before .before .before .before .before .before .before .before .before .before .before .before .before .before .before .before .before .before .before .before .before .before in
-    c .before .before .before .wipe .kept .0 ∙ at-tick .tick .kept .1 .1 .1 .1 .1 .0
+tick-by-requires-2 : tie.Need-tick-by-requires-2
+tick-by-requires-2 c κs =
+    let at-if1 = c .before .before .before .before .before .before .before in
+    let start = at-if1 .before .before .before .before .before .before .before in
+    (record { pad = start .pre .pad; vram = start .pre .vram; regs = start .pre .regs; used = start .pre .used }, rw (at-if1 .if1 .left))
 
 returns-2 : tie.Need-returns-2
 returns-2 c =
-    let at-if1 = c .before .before .before .before .before in
-    let at-settle = at-if1 .before .before .before .before .before .before .before .before .before .before .before .before in
-    let at-tick = at-settle .before .before .before .before .before .before .before .before .before .before .before .before .before in
-    let at-take-mark = at-tick .before .before .before .before .before .before .before .before .before in
-    let at-begin = at-take-mark .before in
-    let at-slice-known4 = at-begin .before .before .before .before in
-    let at-slice-known3 = at-slice-known4 .before in
-    let at-slice-known2 = at-slice-known3 .before in
-    let at-slice-known = at-slice-known2 .before in
-    let start = at-slice-known .before in
-    λ _. rw (c .sending2 .ensures) (tick-refused (start .args .output .now)
-    (at-settle .settle .ensures _ _ _ _ (lent-so _ (start .pre .used) (omega (arith, start .good .1 .1 .1 .1 .1 .0)) (omega (arith, start .good .1 .1 .1 .1 .1 .0)) (at-slice-known .slice-known .given)
-    (at-slice-known2 .slice-known2 .given) (at-slice-known3 .slice-known3 .given) (at-slice-known4 .slice-known4 .given))
-    (tries _ (at-begin .begin .ensures) (at-take-mark .take-mark .ensures _) (at-tick .tick .ensures _ .goes)))
-    (at-if1 .if1 .left) (tick-sends _ _ _ _ _ (start .args .at) (at-begin .begin .ensures) (at-take-mark .take-mark .ensures _) (at-tick .tick .ensures _)) (c .before .before .before .wipe .ensures))
+    let at-tick-by2 = c .before .before .before .before .before .before .before .before .before .before .before .before .before in
+    at-tick-by2 .tick-by2 .ensures
 
 pub fit-tick-spec : {M : Type 1} → statement M
 fit-tick-spec =
-    tie.close (tie.spec (search needs) (search needs) (search needs) (search needs) settle-requires (search needs) (search needs) same-length-2
-    (search needs) (search needs) same-length-5 same-length-6 returns wipe-requires (search needs) (search needs) same-length-8
-    (search needs) (search needs) same-length-11 same-length-12 returns-2)
+    tie.close (tie.spec (search needs) tick-by-requires (search needs) (search needs) (search needs) (search needs) (search needs)
+    (search needs) returns (search needs) tick-by-requires-2 (search needs) (search needs) (search needs) (search needs) (search needs)
+    (search needs) returns-2)

@@ -9,51 +9,58 @@ use Rattle.bench.proofs.walk.do_start.Tie as tie
 
 same-length-2 : tie.Need-same-length-2
 same-length-2 c =
-    let at-start = c .before .before .before .before .before .before .before .before .before .before .before .before .before .before .before .before .before .before .before .before .before .before in
+    let at-start = c .before .before .before .before .before .before .before .before .before .before .before .before .before .before .before .before .before .before .before .before .before .before .before .before .before .before .before in
     at-start .start .kept .1 .0
 
 same-length-3 : tie.Need-same-length-3
 same-length-3 c =
-    let at-settle = c .before .before .before .before .before .before .before .before .before .before in
-    let at-start = at-settle .before .before .before .before .before .before .before .before .before .before .before .before in
+    let at-settle = c .before .before .before .before .before .before .before .before .before .before .before .before in
+    let at-start = at-settle .before .before .before .before .before .before .before .before .before .before .before .before .before .before .before in
     at-settle .settle .kept .1 .0 ∙ at-start .start .kept .1 .1 .0
 
 settle-requires : tie.Need-settle-requires
 settle-requires c κs =
-    let at-start = c .before .before .before .before .before .before .before .before .before .before .before in
-    let at-take-mark = at-start .before .before .before .before .before .before .before .before in
+    let at-start = c .before .before .before .before .before .before .before .before .before .before .before .before .before .before in
+    let at-take-mark = at-start .before .before .before .before .before .before .before .before .before .before .before in
     let at-begin = at-take-mark .before in
-    let start = at-begin .before .before .before .before .before .before .before .before in
+    let start = at-begin .before .before .before .before .before .before .before .before .before .before in
     let lent = start .args in
-    begun (tries {i = lent .image .now} {p = lent .pad .now} {v = lent .vram .now} {g = lent .regs .now} _ {at = lent .at} (at-begin .begin .ensures)
-    (at-take-mark .take-mark .ensures _) (at-start .start .ensures _)) (as-long _ _ _ (start .pre .used))
+    begun (tries {i = lent .image .now} {p = lent .pad .now} {v = lent .vram .now} {g = lent .regs .now} _ {at = lent .at} (at-begin .begin .ensures) (start .pre .1)
+    (at-take-mark .take-mark .ensures _) (at-start .start .ensures _)) (as-long _ _ _ (start .pre .0 .used))
 
 same-length-6 : tie.Need-same-length-6
 same-length-6 c =
-    let at-settle = c .before .before .before .before .before .before .before .before .before .before in
-    let at-start = at-settle .before .before .before .before .before .before .before .before .before .before .before .before in
-    let at-take-mark = at-start .before .before .before .before .before .before .before .before in
+    let at-settle = c .before .before .before .before .before .before .before .before .before .before .before .before in
+    let at-start = at-settle .before .before .before .before .before .before .before .before .before .before .before .before .before .before .before in
+    let at-take-mark = at-start .before .before .before .before .before .before .before .before .before .before .before in
     at-settle .settle .kept .1 .1 .1 .1 .0 ∙ at-start .start .kept .1 .1 .1 .1 .0 ∙ at-take-mark .take-mark .kept .0
+
+same-length-7 : tie.Need-same-length-7
+same-length-7 c =
+    let at-settle = c .before .before .before .before .before .before .before .before .before .before .before .before in
+    let at-start = at-settle .before .before .before .before .before .before .before .before .before .before .before .before .before .before .before in
+    let at-take-mark = at-start .before .before .before .before .before .before .before .before .before .before .before in
+    at-settle .settle .kept .1 .1 .1 .1 .1 .0 ∙ at-start .start .kept .1 .1 .1 .1 .1 .0 ∙ at-take-mark .take-mark .kept .1 .0
 
 returns : tie.Need-returns
 returns c =
-    let at-settle = c .before .before .before .before .before .before .before .before .before .before in
-    let at-start = at-settle .before .before .before .before .before .before .before .before .before .before .before .before in
-    let at-take-mark = at-start .before .before .before .before .before .before .before .before in
+    let at-settle = c .before .before .before .before .before .before .before .before .before .before .before .before in
+    let at-start = at-settle .before .before .before .before .before .before .before .before .before .before .before .before .before .before .before in
+    let at-take-mark = at-start .before .before .before .before .before .before .before .before .before .before .before in
     let at-begin = at-take-mark .before in
-    let at-slice-known5 = at-begin .before .before .before in
+    let at-slice-known5 = at-begin .before .before .before .before .before in
     let at-slice-known4 = at-slice-known5 .before in
     let at-slice-known3 = at-slice-known4 .before in
     let at-slice-known = at-slice-known3 .before .before in
     let start = at-slice-known .before in (
       λ _. at-settle .settle .ensures _ _ _ _
-          (lent-so _ (start .pre .used) (omega (arith, start .good .1 .1 .1 .1 .1 .1 .0)) (omega (arith, start .good .1 .1 .1 .1 .1 .1 .0)) (at-slice-known .slice-known .given)
+          (lent-so _ (start .pre .0 .used) (omega (arith, start .good .1 .1 .1 .1 .1 .1 .1 .0)) (omega (arith, start .good .1 .1 .1 .1 .1 .1 .1 .0)) (at-slice-known .slice-known .given)
           (at-slice-known3 .slice-known3 .given) (at-slice-known4 .slice-known4 .given) (at-slice-known5 .slice-known5 .given))
-          (tries _ (at-begin .begin .ensures) (at-take-mark .take-mark .ensures _) (at-start .start .ensures _)),
-      λ _. tries-marks _ _ _ _ _ (start .args .at) (at-begin .begin .ensures) (at-take-mark .take-mark .ensures _) (at-start .start .ensures _),
+          (tries _ (at-begin .begin .ensures) (start .pre .1) (at-take-mark .take-mark .ensures _) (at-start .start .ensures _)),
+      λ _. tries-marks _ _ _ _ _ (start .args .at) (at-begin .begin .ensures) (start .pre .1) (at-take-mark .take-mark .ensures _) (at-start .start .ensures _),
     )
 
 pub do-start-spec : {M : Type 1} → statement M
 do-start-spec =
-    tie.close (tie.spec (search needs) (search needs) (search needs) settle-requires (search needs) same-length-2 same-length-3 (search needs)
-    (search needs) same-length-6 returns)
+    tie.close (tie.spec (search needs) (search needs) (search needs) settle-requires (search needs) same-length-2 same-length-3
+    (search needs) (search needs) same-length-6 same-length-7 returns)

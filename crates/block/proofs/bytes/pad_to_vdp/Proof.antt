@@ -8,10 +8,11 @@ use Rattle.block.proofs.bytes.pad_to_vdp.Tie as tie
 returns : tie.Need-returns
 unfolding moveByte sourceByte deliver
 returns c =
-    let at-poke-vdp = c .before .before .before .before in
-    let at-peek-pad = at-poke-vdp .before .before .before in
+    let at-poke-vdp = c .before .before .before .before .before .before in
+    let at-peek-pad = at-poke-vdp .before .before .before .before in
     λ _. bind _ (at-peek-pad .peek-pad .ensures _) (at-poke-vdp .poke-vdp .ensures _)
 
 pub pad-to-vdp-spec : {M : Type 1} → statement M
 pad-to-vdp-spec =
-    tie.close (tie.spec (search needs) (search needs) (search needs) (search needs) (search needs) (search needs) returns)
+    tie.close (tie.spec (search needs) (search needs) (search needs) (search needs) (search needs) (search needs) (search needs)
+    returns)

@@ -22,5 +22,5 @@ returns-3 c = λ _. rw (c .before .before .from3 .given .1) (c .peek-vdp .ensure
 
 pub source-byte-spec : {M : Type 1} → statement M
 source-byte-spec =
-    tie.close (tie.spec (search needs) (search needs) (search needs) (search needs) (search needs) (search needs) (search needs) (search needs)
-    (search needs) (search needs) (search needs) (search needs) returns returns-2 returns-3)
+    tie.close (tie.spec (search needs) (search needs) (search needs) (search needs) (search needs) (search needs) (search needs)
+    (search needs) (search needs) (search needs) (search needs) (search needs) returns returns-2 returns-3)

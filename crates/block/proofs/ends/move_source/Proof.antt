@@ -7,8 +7,8 @@ use Rattle.block.proofs.ends.move_source.Tie as tie
 returns : tie.Need-returns
 unfolding moveSource
 returns c =
-    let at-place-source = c .before .before .before .before .before .before in
-    let at-if1 = at-place-source .before .before .before .before in
+    let at-place-source = c .before .before .before .before .before .before .before .before in
+    let at-if1 = at-place-source .before .before .before .before .before in
     λ _. rw (at-if1 .if1 .taken) (at-place-source .place-source .ensures _)
 
 returns-2 : tie.Need-returns-2
@@ -19,5 +19,5 @@ returns-2 c =
 
 pub move-source-spec : {M : Type 1} → statement M
 move-source-spec =
-    tie.close (tie.spec (search needs) (search needs) (search needs) (search needs) returns (search needs) (search needs) (search needs)
-    returns-2)
+    tie.close (tie.spec (search needs) (search needs) (search needs) (search needs) (search needs) returns (search needs)
+    (search needs) (search needs) returns-2)

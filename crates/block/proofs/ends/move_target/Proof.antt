@@ -7,8 +7,8 @@ use Rattle.block.proofs.ends.move_target.Tie as tie
 returns : tie.Need-returns
 unfolding moveTarget
 returns c =
-    let at-ram-target = c .before .before .before .before .before .before in
-    let at-if1 = at-ram-target .before .before .before .before in
+    let at-ram-target = c .before .before .before .before .before .before .before .before in
+    let at-if1 = at-ram-target .before .before .before .before .before in
     λ _. rw (at-if1 .if1 .taken) (at-ram-target .ram-target .ensures _)
 
 returns-2 : tie.Need-returns-2
@@ -19,5 +19,5 @@ returns-2 c =
 
 pub move-target-spec : {M : Type 1} → statement M
 move-target-spec =
-    tie.close (tie.spec (search needs) (search needs) (search needs) (search needs) returns (search needs) (search needs) (search needs)
-    returns-2)
+    tie.close (tie.spec (search needs) (search needs) (search needs) (search needs) (search needs) returns (search needs)
+    (search needs) (search needs) returns-2)

@@ -8,7 +8,7 @@ use Rattle.rules.specs.Machine.{grom, vdp}
 use Rattle.rules.specs.Operands.{cell}
 use Rattle.rules.specs.Instructions.{moveBytes}
 use Rattle.rules.proofs.Loops.{up, none-left, none-made}
-use Rattle.machine.specs.Meaning.{_&_, imageFrom, mapFrom, vramFrom, journalFrom, Leaves}
+use Rattle.machine.specs.Meaning.{_&_, imageFrom, mapFrom, vramFrom, journalFrom, ringFrom, Leaves}
 use Rattle.machine.proofs.Chain.{whole, turns, ends, over}
 use Rattle.machine.proofs.Acts.{still}
 use Rattle.block.proofs.Laws.{moves}
@@ -16,31 +16,32 @@ use Rattle.block.proofs.whole.grom_bytes.Statement.{statement}
 use Rattle.block.proofs.whole.grom_bytes.Tie as tie
 
 abbrev Inv-loop : tie.InvT-loop
-Inv-loop image map₀ vram₀ journal₀ n a t x₀ k₀ map vram journal x k =
+Inv-loop image map₀ vram₀ journal₀ ring₀ n a t x₀ k₀ map vram journal ring x k =
     Leaves (moveBytes n 0 (cell grom a) (cell vdp t)) (moveBytes (n - k) k (cell grom a) (cell vdp t))
-    (imageFrom image image & mapFrom map₀ map & vramFrom vram₀ vram & journalFrom journal₀ journal) x₀ x
-    × (length map ≡ length map₀) × (length vram ≡ length vram₀) × (length journal ≡ length journal₀) × (k ≤ n)
+    (imageFrom image image & mapFrom map₀ map & vramFrom vram₀ vram & journalFrom journal₀ journal & ringFrom ring₀ ring) x₀ x
+    × (length map ≡ length map₀) × (length vram ≡ length vram₀) × (length journal ≡ length journal₀) × (length ring ≡ length ring₀) × (k ≤ n)
 
 abbrev μ-loop : tie.MeasureT-loop
-μ-loop image map₀ vram₀ journal₀ n a t x₀ k₀ map vram journal x k = n - k
+μ-loop image map₀ vram₀ journal₀ ring₀ n a t x₀ k₀ map vram journal ring x k = n - k
 
 loop-holds : tie.Need-loop-holds Inv-loop μ-loop
-loop-holds c = (λ _. whole (none-made (moves _ _) _ 0), refl, refl, refl, omega arith)
+loop-holds c = (λ _. whole (none-made (moves _ _) _ 0), refl, refl, refl, refl, omega arith)
 
 returns : tie.Need-returns Inv-loop μ-loop
 returns c =
-    let at-grom-to-vdp = c .before .before .before .before .before .before .before .before in
-    let at-loop-test = at-grom-to-vdp .before .before .before .before in
+    let at-grom-to-vdp = c .before .before .before .before .before .before .before .before .before .before in
+    let at-loop-test = at-grom-to-vdp .before .before .before .before .before in
     let at-loop = at-loop-test .before in
     λ _. ends (turns (at-loop .loop .inv .0 _) (up (moves _ _) refl (at-loop-test .loop-test .taken)) (at-grom-to-vdp .grom-to-vdp .ensures _)) (still (c .if1 .taken))
 
 loop-again : tie.Need-loop-again Inv-loop μ-loop
 loop-again c =
-    let at-grom-to-vdp = c .before .before .before .before .before .before .before .before in
-    let at-loop-test = at-grom-to-vdp .before .before .before .before in
+    let at-grom-to-vdp = c .before .before .before .before .before .before .before .before .before .before in
+    let at-loop-test = at-grom-to-vdp .before .before .before .before .before in
     let at-loop = at-loop-test .before in (
       λ _. turns (at-loop .loop .inv .0 _) (up (moves _ _) refl (at-loop-test .loop-test .taken))
           (at-grom-to-vdp .grom-to-vdp .ensures _),
+      search needs,
       search needs,
       search needs,
       search needs,
@@ -52,5 +53,5 @@ returns-2 c = λ _. over (c .before .loop .inv .0 _) (none-left (moves _ _) _ (o
 
 pub grom-bytes-spec : {M : Type 1} → statement M
 grom-bytes-spec =
-    tie.close (tie.spec Inv-loop μ-loop loop-holds (search needs) (search needs) (search needs) (search needs) returns (search needs)
-    (search needs) loop-again (search needs) (search needs) (search needs) returns-2)
+    tie.close (tie.spec Inv-loop μ-loop loop-holds (search needs) (search needs) (search needs) (search needs) (search needs)
+    returns (search needs) (search needs) loop-again (search needs) (search needs) (search needs) (search needs) returns-2)

@@ -8,7 +8,7 @@ use Rattle.rules.specs.Machine.{vdp}
 use Rattle.rules.specs.Operands.{cell}
 use Rattle.rules.specs.Instructions.{moveBytes}
 use Rattle.rules.proofs.Loops.{up, none-left, none-made}
-use Rattle.machine.specs.Meaning.{_&_, vramFrom, journalFrom, Leaves}
+use Rattle.machine.specs.Meaning.{_&_, vramFrom, journalFrom, ringFrom, Leaves}
 use Rattle.machine.proofs.Chain.{whole, turns, ends, over}
 use Rattle.machine.proofs.Acts.{still}
 use Rattle.block.proofs.Laws.{moves}
@@ -16,31 +16,32 @@ use Rattle.block.proofs.whole.vdp_bytes.Statement.{statement}
 use Rattle.block.proofs.whole.vdp_bytes.Tie as tie
 
 abbrev Inv-loop : tie.InvT-loop
-Inv-loop vram₀ journal₀ n a t x₀ k₀ vram journal x k =
+Inv-loop vram₀ journal₀ ring₀ n a t x₀ k₀ vram journal ring x k =
     Leaves (moveBytes n 0 (cell vdp a) (cell vdp t)) (moveBytes (n - k) k (cell vdp a) (cell vdp t))
-    (vramFrom vram₀ vram & journalFrom journal₀ journal) x₀ x
-    × (length vram ≡ length vram₀) × (length journal ≡ length journal₀) × (k ≤ n)
+    (vramFrom vram₀ vram & journalFrom journal₀ journal & ringFrom ring₀ ring) x₀ x
+    × (length vram ≡ length vram₀) × (length journal ≡ length journal₀) × (length ring ≡ length ring₀) × (k ≤ n)
 
 abbrev μ-loop : tie.MeasureT-loop
-μ-loop vram₀ journal₀ n a t x₀ k₀ vram journal x k = n - k
+μ-loop vram₀ journal₀ ring₀ n a t x₀ k₀ vram journal ring x k = n - k
 
 loop-holds : tie.Need-loop-holds Inv-loop μ-loop
-loop-holds c = (λ _. whole (none-made (moves _ _) _ 0), refl, refl, omega arith)
+loop-holds c = (λ _. whole (none-made (moves _ _) _ 0), refl, refl, refl, omega arith)
 
 returns : tie.Need-returns Inv-loop μ-loop
 returns c =
-    let at-byte = c .before .before .before .before .before .before in
-    let at-loop-test = at-byte .before .before .before in
+    let at-byte = c .before .before .before .before .before .before .before .before in
+    let at-loop-test = at-byte .before .before .before .before in
     let at-loop = at-loop-test .before in
     λ _. ends (turns (at-loop .loop .inv .0 _) (up (moves _ _) refl (at-loop-test .loop-test .taken)) (at-byte .vdp-to-vdp .ensures _)) (still (c .if1 .taken))
 
 loop-again : tie.Need-loop-again Inv-loop μ-loop
 loop-again c =
-    let at-byte = c .before .before .before .before .before .before in
-    let at-loop-test = at-byte .before .before .before in
+    let at-byte = c .before .before .before .before .before .before .before .before in
+    let at-loop-test = at-byte .before .before .before .before in
     let at-loop = at-loop-test .before in (
       λ _. turns (at-loop .loop .inv .0 _) (up (moves _ _) refl (at-loop-test .loop-test .taken))
           (at-byte .vdp-to-vdp .ensures _),
+      search needs,
       search needs,
       search needs,
       omega arith,
@@ -51,5 +52,5 @@ returns-2 c = λ _. over (c .before .loop .inv .0 _) (none-left (moves _ _) _ (o
 
 pub vdp-bytes-spec : {M : Type 1} → statement M
 vdp-bytes-spec =
-    tie.close (tie.spec Inv-loop μ-loop loop-holds (search needs) (search needs) (search needs) returns (search needs)
-    (search needs) loop-again (search needs) (search needs) returns-2)
+    tie.close (tie.spec Inv-loop μ-loop loop-holds (search needs) (search needs) (search needs) (search needs) returns
+    (search needs) (search needs) loop-again (search needs) (search needs) (search needs) returns-2)

@@ -54,5 +54,5 @@ returns c =
 
 pub in-table-spec : {M : Type 1} → statement M
 in-table-spec =
-    tie.close (tie.spec (search needs) (search needs) (search needs) (search needs) (search needs) (search needs) along-requires (search needs)
-    (search needs) along-requires-2 (search needs) same-length returns)
+    tie.close (tie.spec (search needs) (search needs) (search needs) (search needs) (search needs) (search needs) along-requires
+    (search needs) (search needs) along-requires-2 (search needs) same-length returns)

@@ -51,5 +51,5 @@ returns-3 c = λ _. rw (told _ (c .before .before .before .before .fits .y) (c .
 
 pub meets-spec : {M : Type 1} → statement M
 meets-spec =
-    tie.close (tie.spec (search needs) (search needs) cast-bit-number cast-bit-number-2 (search needs) (search needs) (search needs) returns
-    returns-2 returns-3)
+    tie.close (tie.spec (search needs) (search needs) cast-bit-number cast-bit-number-2 (search needs) (search needs)
+    (search needs) returns returns-2 returns-3)

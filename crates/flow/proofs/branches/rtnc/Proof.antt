@@ -6,8 +6,8 @@ use Rattle.flow.proofs.branches.rtnc.Tie as tie
 
 returns : tie.Need-returns
 unfolding rtncRule
-returns c = λ _. c .before .before .before .before .pop-pc .ensures _
+returns c = λ _. c .before .before .before .before .before .before .pop-pc .ensures _
 
 pub rtnc-spec : {M : Type 1} → statement M
 rtnc-spec =
-    tie.close (tie.spec (search needs) (search needs) (search needs) returns)
+    tie.close (tie.spec (search needs) (search needs) (search needs) (search needs) returns)

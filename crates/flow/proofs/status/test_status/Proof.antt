@@ -13,14 +13,15 @@ use Rattle.flow.proofs.status.test_status.Tie as tie
 returns : tie.Need-returns
 unfolding testRule
 returns c =
-    let at-with-condition = c .before .before .before .before .before .before .before in
+    let at-with-condition = c .before .before .before .before .before .before .before .before .before .before in
     let at-tested = at-with-condition .before in
     let at-peek-pad = at-tested .before in
     let made = at-with-condition .with-condition .ensures
     ∙ ap (λ (x : Bool). withCondition x (at-peek-pad .peek-pad .result .byte)) (at-tested .tested .ensures) in
     λ _.
-    bind _ (at-peek-pad .peek-pad .ensures _) (via (poke cpu _) made (c .before .before .before .before .poke-pad .ensures _))
+    bind _ (at-peek-pad .peek-pad .ensures _) (via (poke cpu _) made (c .before .before .before .before .before .before .poke-pad .ensures _))
 
 pub test-status-spec : {M : Type 1} → statement M
 test-status-spec =
-    tie.close (tie.spec (search needs) (search needs) (search needs) (search needs) (search needs) (search needs) returns)
+    tie.close (tie.spec (search needs) (search needs) (search needs) (search needs) (search needs) (search needs) (search needs)
+    returns)

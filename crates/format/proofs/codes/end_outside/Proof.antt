@@ -9,8 +9,8 @@ use Rattle.format.proofs.codes.end_outside.Tie as tie
 
 returns : tie.Need-returns
 unfolding endOutside turnOf
-returns c = (refl, λ _. seq (c .before .before .before .before .settle-cursor .ensures _) (gives refl))
+returns c = (refl, λ _. seq (c .before .before .before .before .before .before .settle-cursor .ensures _) (gives refl))
 
 pub end-outside-spec : {M : Type 1} → statement M
 end-outside-spec =
-    tie.close (tie.spec (search needs) (search needs) (search needs) returns)
+    tie.close (tie.spec (search needs) (search needs) (search needs) (search needs) returns)

@@ -10,9 +10,9 @@ use Rattle.format.proofs.codes.last_row.Tie as tie
 returns : tie.Need-returns
 unfolding lastRow goOn
 returns c =
-    let at-operand-text = c .before .before .before .before .before .before .before .before .before in
+    let at-operand-text = c .before .before .before .before .before .before .before .before .before .before .before in
     let at-count-of = at-operand-text .before in
-    let at-if1 = at-count-of .before .before .before .before .before in (
+    let at-if1 = at-count-of .before .before .before .before .before .before in (
       omega (arith, c .go-on .ensures .0),
       λ _. rw (lt-ltb _ _ (at-if1 .if1 .taken), ← at-count-of .count-of .ensures)
           (seq (at-operand-text .operand-text .ensures _) (c .go-on .ensures .1 _)),
@@ -21,8 +21,8 @@ returns c =
 returns-2 : tie.Need-returns-2
 unfolding lastRow
 returns-2 c =
-    let at-end-code = c .before .before .before .before .before .before in
-    let at-if2 = at-end-code .before .before .before .before in
+    let at-end-code = c .before .before .before .before .before .before .before .before in
+    let at-if2 = at-end-code .before .before .before .before .before in
     let at-if1 = at-if2 .before in (
       at-end-code .end-code .ensures .0,
       λ _. rw (le-ltb _ _ (at-if1 .if1 .left), lt-ltb _ _ (at-if2 .if2 .taken))
@@ -46,8 +46,8 @@ returns-3 c =
 returns-4 : tie.Need-returns-4
 unfolding lastRow
 returns-4 c =
-    let at-operand-bias = c .before .before .before .before .before .before in
-    let at-if4 = at-operand-bias .before .before .before .before in
+    let at-operand-bias = c .before .before .before .before .before .before .before .before in
+    let at-if4 = at-operand-bias .before .before .before .before .before in
     let at-if3 = at-if4 .before in
     let at-if2 = at-if3 .before in
     let at-if1 = at-if2 .before in (
@@ -60,8 +60,8 @@ returns-4 c =
 returns-5 : tie.Need-returns-5
 unfolding lastRow goOn
 returns-5 c =
-    let at-cursor-code = c .before .before .before .before .before .before .before in
-    let at-if5 = at-cursor-code .before .before .before .before in
+    let at-cursor-code = c .before .before .before .before .before .before .before .before .before in
+    let at-if5 = at-cursor-code .before .before .before .before .before in
     let at-if4 = at-if5 .before in
     let at-if3 = at-if4 .before in
     let at-if2 = at-if3 .before in
@@ -80,8 +80,8 @@ returns-5 c =
 returns-6 : tie.Need-returns-6
 unfolding lastRow goOn
 returns-6 c =
-    let at-cursor-code2 = c .before .before .before .before .before .before .before in
-    let at-if5 = at-cursor-code2 .before .before .before .before in
+    let at-cursor-code2 = c .before .before .before .before .before .before .before .before .before in
+    let at-if5 = at-cursor-code2 .before .before .before .before .before in
     let at-if4 = at-if5 .before in
     let at-if3 = at-if4 .before in
     let at-if2 = at-if3 .before in
@@ -99,7 +99,8 @@ returns-6 c =
 
 pub last-row-spec : {M : Type 1} → statement M
 last-row-spec =
-    tie.close (tie.spec (search needs) (search needs) (search needs) (search needs) (search needs) (search needs) (search needs) returns
-    (search needs) (search needs) (search needs) (search needs) returns-2 (search needs) (search needs) returns-3 (search needs)
-    (search needs) (search needs) (search needs) returns-4 (search needs) (search needs) (search needs) (search needs) (search needs)
-    returns-5 (search needs) (search needs) (search needs) (search needs) (search needs) returns-6)
+    tie.close (tie.spec (search needs) (search needs) (search needs) (search needs) (search needs) (search needs) (search needs)
+    (search needs) returns (search needs) (search needs) (search needs) (search needs) (search needs) returns-2 (search needs)
+    (search needs) returns-3 (search needs) (search needs) (search needs) (search needs) (search needs) returns-4 (search needs)
+    (search needs) (search needs) (search needs) (search needs) (search needs) returns-5 (search needs) (search needs)
+    (search needs) (search needs) (search needs) (search needs) returns-6)

@@ -9,11 +9,12 @@ use Rattle.format.proofs.codes.operand_bias.Tie as tie
 returns : tie.Need-returns
 unfolding operandBias
 returns c =
-    let at-cpu-operand = c .before .before .before .before .before .before .before .before .before .before in (
+    let at-cpu-operand = c .before .before .before .before .before .before .before .before .before .before .before .before in (
       omega (arith, c .go-on .ensures .0),
       λ _. bind _ (at-cpu-operand .cpu-operand .ensures _) (bind _ (c .before .peek-pad .ensures _) (c .go-on .ensures .1 _)),
     )
 
 pub operand-bias-spec : {M : Type 1} → statement M
 operand-bias-spec =
-    tie.close (tie.spec (search needs) (search needs) (search needs) (search needs) (search needs) (search needs) (search needs) returns)
+    tie.close (tie.spec (search needs) (search needs) (search needs) (search needs) (search needs) (search needs) (search needs)
+    (search needs) returns)

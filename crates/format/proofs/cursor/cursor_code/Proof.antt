@@ -8,12 +8,13 @@ use Rattle.format.proofs.cursor.cursor_code.Tie as tie
 returns : tie.Need-returns
 unfolding cursorCode
 returns c =
-    let at-next-byte = c .before .before .before .before .before .before .before .before .before in
-    let at-settle-cursor = at-next-byte .before .before .before .before .before .before in
+    let at-next-byte = c .before .before .before .before .before .before .before .before .before .before .before .before in
+    let at-settle-cursor = at-next-byte .before .before .before .before .before .before .before .before in
     λ _.
     seq (at-settle-cursor .settle-cursor .ensures _)
-    (bind _ (at-next-byte .next-byte .ensures _) (c .before .before .before .before .poke-pad .ensures _))
+    (bind _ (at-next-byte .next-byte .ensures _) (c .before .before .before .before .before .before .poke-pad .ensures _))
 
 pub cursor-code-spec : {M : Type 1} → statement M
 cursor-code-spec =
-    tie.close (tie.spec (search needs) (search needs) (search needs) (search needs) (search needs) (search needs) returns)
+    tie.close (tie.spec (search needs) (search needs) (search needs) (search needs) (search needs) (search needs) (search needs)
+    returns)

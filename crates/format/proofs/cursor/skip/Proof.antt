@@ -8,12 +8,13 @@ use Rattle.format.proofs.cursor.skip.Tie as tie
 returns : tie.Need-returns
 unfolding skip
 returns c =
-    let at-wrap-skip = c .before .before .before .before .before .before .before in
+    let at-wrap-skip = c .before .before .before .before .before .before .before .before .before .before in
     let at-position = at-wrap-skip .before .before in
     λ _.
     bind _ (at-position .position .ensures .1 _)
-    (via setCursor (at-wrap-skip .wrap-skip .ensures) (c .before .before .before .before .set-cursor .ensures _))
+    (via setCursor (at-wrap-skip .wrap-skip .ensures) (c .before .before .before .before .before .before .set-cursor .ensures _))
 
 pub skip-spec : {M : Type 1} → statement M
 skip-spec =
-    tie.close (tie.spec (search needs) (search needs) (search needs) (search needs) (search needs) (search needs) returns)
+    tie.close (tie.spec (search needs) (search needs) (search needs) (search needs) (search needs) (search needs) (search needs)
+    returns)

@@ -6,7 +6,7 @@ use lib.ListN.{length}
 use borrow.Author.Needs.{needs}
 use Rattle.rules.specs.Format.{padText}
 use Rattle.rules.proofs.Loops.{down, none-left}
-use Rattle.machine.specs.Meaning.{_&_, padFrom, vramFrom, journalFrom, Leaves}
+use Rattle.machine.specs.Meaning.{_&_, padFrom, vramFrom, journalFrom, ringFrom, Leaves}
 use Rattle.machine.proofs.Chain.{whole, turns, ends, over}
 use Rattle.machine.proofs.Acts.{still}
 use Rattle.format.proofs.Laws.{pad-turns}
@@ -14,30 +14,31 @@ use Rattle.format.proofs.text.pad_text.Statement.{statement}
 use Rattle.format.proofs.text.pad_text.Tie as tie
 
 abbrev Inv-loop : tie.InvT-loop
-Inv-loop pad₀ vram₀ journal₀ n a bias x₀ left₀ at₀ pad vram journal x left at =
-    Leaves (padText n a bias) (padText left at bias) (padFrom pad₀ pad & vramFrom vram₀ vram & journalFrom journal₀ journal) x₀ x
-    × (length pad ≡ length pad₀) × (length vram ≡ length vram₀) × (length journal ≡ length journal₀) × (at + left ≤ a + n)
+Inv-loop pad₀ vram₀ journal₀ ring₀ n a bias x₀ left₀ at₀ pad vram journal ring x left at =
+    Leaves (padText n a bias) (padText left at bias) (padFrom pad₀ pad & vramFrom vram₀ vram & journalFrom journal₀ journal & ringFrom ring₀ ring) x₀ x
+    × (length pad ≡ length pad₀) × (length vram ≡ length vram₀) × (length journal ≡ length journal₀) × (length ring ≡ length ring₀) × (at + left ≤ a + n)
 
 abbrev μ-loop : tie.MeasureT-loop
-μ-loop pad₀ vram₀ journal₀ n a bias x₀ left₀ at₀ pad vram journal x left at = left
+μ-loop pad₀ vram₀ journal₀ ring₀ n a bias x₀ left₀ at₀ pad vram journal ring x left at = left
 
 loop-holds : tie.Need-loop-holds Inv-loop μ-loop
-loop-holds c = (λ _. whole refl, refl, refl, refl, omega arith)
+loop-holds c = (λ _. whole refl, refl, refl, refl, refl, omega arith)
 
 returns : tie.Need-returns Inv-loop μ-loop
 returns c =
-    let at-show-cell = c .before .before .before .before .before .before .before .before in
-    let at-loop-test = at-show-cell .before .before .before .before in
+    let at-show-cell = c .before .before .before .before .before .before .before .before .before .before in
+    let at-loop-test = at-show-cell .before .before .before .before .before in
     let at-loop = at-loop-test .before in
     λ _. ends (turns (at-loop .loop .inv .0 _) (down (pad-turns _) _ (at-loop-test .loop-test .taken)) (at-show-cell .show-cell .ensures _))
     (still (c .if1 .taken))
 
 loop-again : tie.Need-loop-again Inv-loop μ-loop
 loop-again c =
-    let at-show-cell = c .before .before .before .before .before .before .before .before in
-    let at-loop-test = at-show-cell .before .before .before .before in
+    let at-show-cell = c .before .before .before .before .before .before .before .before .before .before in
+    let at-loop-test = at-show-cell .before .before .before .before .before in
     let at-loop = at-loop-test .before in (
       λ _. turns (at-loop .loop .inv .0 _) (down (pad-turns _) _ (at-loop-test .loop-test .taken)) (at-show-cell .show-cell .ensures _),
+      search needs,
       search needs,
       search needs,
       search needs,
@@ -49,5 +50,6 @@ returns-2 c = λ _. over (c .before .loop .inv .0 _) (none-left (pad-turns _) _ 
 
 pub pad-text-spec : {M : Type 1} → statement M
 pad-text-spec =
-    tie.close (tie.spec Inv-loop μ-loop loop-holds (search needs) (search needs) (search needs) (search needs) returns
-    (search needs) (search needs) (search needs) loop-again (search needs) (search needs) (search needs) returns-2)
+    tie.close (tie.spec Inv-loop μ-loop loop-holds (search needs) (search needs) (search needs) (search needs) (search needs)
+    returns (search needs) (search needs) (search needs) loop-again (search needs) (search needs) (search needs) (search needs)
+    returns-2)

@@ -7,14 +7,14 @@ use Rattle.format.proofs.text.repeat_text.Tie as tie
 
 same-length : tie.Need-same-length
 same-length c =
-    let at-next-byte = c .before .before .before .before .before .before .before .before .before .before .before .before .before in
+    let at-next-byte = c .before .before .before .before .before .before .before .before .before .before .before .before .before .before .before .before in
     at-next-byte .next-byte .kept .1 .0
 
 returns : tie.Need-returns
 unfolding repeatText
 returns c =
-    let at-show-times = c .before .before .before .before .before .before in
-    let at-wrapping-add-u8 = at-show-times .before .before .before .before in
+    let at-show-times = c .before .before .before .before .before .before .before .before in
+    let at-wrapping-add-u8 = at-show-times .before .before .before .before .before in
     let at-next-byte = at-wrapping-add-u8 .before .before .before in
     λ _.
     bind _ (at-next-byte .next-byte .ensures _)
@@ -22,4 +22,5 @@ returns c =
 
 pub repeat-text-spec : {M : Type 1} → statement M
 repeat-text-spec =
-    tie.close (tie.spec (search needs) (search needs) (search needs) same-length (search needs) (search needs) (search needs) returns)
+    tie.close (tie.spec (search needs) (search needs) (search needs) same-length (search needs) (search needs) (search needs)
+    (search needs) returns)

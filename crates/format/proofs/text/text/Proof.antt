@@ -5,7 +5,7 @@ use lib.ListN.{length}
 use borrow.Author.Needs.{needs}
 use Rattle.rules.specs.Format.{text}
 use Rattle.rules.proofs.Loops.{down, none-left}
-use Rattle.machine.specs.Meaning.{_&_, imageFrom, mapFrom, padFrom, vramFrom, journalFrom, Leaves}
+use Rattle.machine.specs.Meaning.{_&_, imageFrom, mapFrom, padFrom, vramFrom, journalFrom, ringFrom, Leaves}
 use Rattle.machine.proofs.Chain.{whole, turns, ends, over}
 use Rattle.machine.proofs.Acts.{still}
 use Rattle.format.proofs.Laws.{text-turns}
@@ -13,31 +13,32 @@ use Rattle.format.proofs.text.text.Statement.{statement}
 use Rattle.format.proofs.text.text.Tie as tie
 
 abbrev Inv-loop : tie.InvT-loop
-Inv-loop image map₀ pad₀ vram₀ journal₀ n step bias x₀ left₀ map pad vram journal x left =
+Inv-loop image map₀ pad₀ vram₀ journal₀ ring₀ n step bias x₀ left₀ map pad vram journal ring x left =
     Leaves (text n step bias) (text left step bias)
-    (imageFrom image image & mapFrom map₀ map & padFrom pad₀ pad & vramFrom vram₀ vram & journalFrom journal₀ journal) x₀ x
-    × (length map ≡ length map₀) × (length pad ≡ length pad₀) × (length vram ≡ length vram₀) × (length journal ≡ length journal₀)
+    (imageFrom image image & mapFrom map₀ map & padFrom pad₀ pad & vramFrom vram₀ vram & journalFrom journal₀ journal & ringFrom ring₀ ring) x₀ x
+    × (length map ≡ length map₀) × (length pad ≡ length pad₀) × (length vram ≡ length vram₀) × (length journal ≡ length journal₀) × (length ring ≡ length ring₀)
 
 abbrev μ-loop : tie.MeasureT-loop
-μ-loop image map₀ pad₀ vram₀ journal₀ n step bias x₀ left₀ map pad vram journal x left = left
+μ-loop image map₀ pad₀ vram₀ journal₀ ring₀ n step bias x₀ left₀ map pad vram journal ring x left = left
 
 loop-holds : tie.Need-loop-holds Inv-loop μ-loop
-loop-holds c = (λ _. whole refl, refl, refl, refl, refl)
+loop-holds c = (λ _. whole refl, refl, refl, refl, refl, refl)
 
 returns : tie.Need-returns Inv-loop μ-loop
 returns c =
-    let at-show-next = c .before .before .before .before .before .before .before .before .before .before in
-    let at-loop-test = at-show-next .before .before .before .before .before in
+    let at-show-next = c .before .before .before .before .before .before .before .before .before .before .before .before in
+    let at-loop-test = at-show-next .before .before .before .before .before .before in
     let at-loop = at-loop-test .before in
     λ _. ends (turns (at-loop .loop .inv .0 _) (down (text-turns _ _) 0 (at-loop-test .loop-test .taken)) (at-show-next .show-next .ensures _))
     (still (c .if1 .taken))
 
 loop-again : tie.Need-loop-again Inv-loop μ-loop
 loop-again c =
-    let at-show-next = c .before .before .before .before .before .before .before .before .before .before in
-    let at-loop-test = at-show-next .before .before .before .before .before in
+    let at-show-next = c .before .before .before .before .before .before .before .before .before .before .before .before in
+    let at-loop-test = at-show-next .before .before .before .before .before .before in
     let at-loop = at-loop-test .before in (
       λ _. turns (at-loop .loop .inv .0 _) (down (text-turns _ _) 0 (at-loop-test .loop-test .taken)) (at-show-next .show-next .ensures _),
+      search needs,
       search needs,
       search needs,
       search needs,
@@ -49,5 +50,6 @@ returns-2 c = λ _. over (c .before .loop .inv .0 _) (none-left (text-turns _ _)
 
 pub text-spec : {M : Type 1} → statement M
 text-spec =
-    tie.close (tie.spec Inv-loop μ-loop loop-holds (search needs) (search needs) (search needs) (search needs) (search needs) returns
-    (search needs) (search needs) loop-again (search needs) (search needs) (search needs) (search needs) returns-2)
+    tie.close (tie.spec Inv-loop μ-loop loop-holds (search needs) (search needs) (search needs) (search needs) (search needs)
+    (search needs) returns (search needs) (search needs) loop-again (search needs) (search needs) (search needs) (search needs)
+    (search needs) returns-2)

@@ -6,8 +6,8 @@ use Rattle.machine.proofs.grom.poke_grom.Statement.{statement}
 use Rattle.machine.proofs.grom.poke_grom.Tie as tie
 
 returns : tie.Need-returns
-returns c = λ rest. c .before .before .before .before .store .ensures (unbooked [] 0 (rest .pad) (rest .vram) (rest .regs) []) (rest .map)
+returns c = λ w. c .before .before .before .before .before .before .store .ensures (unbooked [] 0 (w .rest .pad) (w .rest .vram) (w .rest .regs) [] (w .older) (w .place)) (w .rest .map)
 
 pub poke-grom-spec : {M : Type 1} → statement M
 poke-grom-spec =
-    tie.close (tie.spec (search needs) (search needs) (search needs) returns)
+    tie.close (tie.spec (search needs) (search needs) (search needs) (search needs) returns)

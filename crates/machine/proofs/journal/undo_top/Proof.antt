@@ -16,7 +16,7 @@ returns-2 c =
     let at-wipe = at-put-back .before .before .before .before .before .before .before in
     let at-word-at = at-wipe .before .before in
     let at-if1 = at-word-at .before .before in
-    λ _. undone _ _ _ _ _ _ (at-if1 .if1 .left) refl (at-word-at .word-at .ensures) (at-wipe .wipe .ensures (unbooked _ _ _ _ _ [])) (at-put-back .put-back .ensures _ _)
+    λ _. undone _ _ _ _ _ _ (at-if1 .if1 .left) refl (at-word-at .word-at .ensures) (at-wipe .wipe .ensures (unbooked _ _ _ _ _ [] 0 0)) (at-put-back .put-back .ensures _ _)
 
 pub undo-top-spec : {M : Type 1} → statement M
 undo-top-spec =

@@ -6,12 +6,12 @@ use Rattle.machine.proofs.memory.load.Statement.{statement}
 use Rattle.machine.proofs.memory.load.Tie as tie
 
 returns : tie.Need-returns
-returns c = λ x _. still (c .if1 .taken)
+returns c = λ x r _. still (c .if1 .taken)
 
 returns-2 : tie.Need-returns-2
 returns-2 c =
     let start = c .before .before .before .before .before .before .before in
-    λ x _. rw (c .refused .ensures) (peek-far (start .args .k) _ (x .journal) _ x (c .before .before .before .before .if1 .left)
+    λ x r _. rw (c .refused .ensures) (peek-far (start .args .k) _ (x .journal) _ x (c .before .before .before .before .if1 .left)
     (c .before .before .before .reach .ensures) (start .pre .1) (c .before .before .if2 .taken) (c .before .outside .ensures))
 
 shared-slice-read-read : tie.Need-shared-slice-read-read
@@ -22,7 +22,7 @@ shared-slice-read-read c =
 returns-3 : tie.Need-returns-3
 returns-3 c =
     let start = c .before .before .before .before .before .before .before in
-    λ x _. rw (c .read .ensures) (peeked (start .args .k) _ (x .journal) _ x (c .before .before .before .before .if1 .left) (c .before .before .before .reach .ensures) (start .pre .1) (c .before .before .if2 .left) refl)
+    λ x r _. rw (c .read .ensures) (peeked (start .args .k) _ (x .journal) _ x (c .before .before .before .before .if1 .left) (c .before .before .before .reach .ensures) (start .pre .1) (c .before .before .if2 .left) refl)
 
 pub load-spec : {M : Type 1} → statement M
 load-spec =

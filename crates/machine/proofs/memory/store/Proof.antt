@@ -4,7 +4,7 @@ use mathlib.Core.Path.{_∙_, sym}
 use mathlib.Core.List.{[]}
 use native.Mathlib.Omega.{arith}
 use Rattle.machine.specs.Meaning.{with}
-use Rattle.machine.proofs.Acts.{still, within, near, kind-small, poke-far, poke-barred, poke-full, poked}
+use Rattle.machine.proofs.Acts.{still, bookIn, within, near, kind-small, poke-far, poke-barred, poke-full, poked}
 use Rattle.rules.proofs.Tests.{denied, granted}
 use Rattle.ring.proofs.Books.{done-so, not-done}
 use borrow.Author.Needs.{needs}
@@ -42,25 +42,25 @@ cast-a c =
 
 pack-requires : tie.Need-pack-requires
 pack-requires c κs =
-    let at-reach = c .before .before .before .before .before .before .before .before .before in
+    let at-reach = c .before .before .before .before .before .before .before .before .before .before in
     let start = at-reach .before .before .before .before in
-    (omega (arith, kind-small (start .args .k), c .kind .ensures), omega (arith, near (start .args .k) _ (at-reach .reach .ensures) (c .before .before .before .before .if2 .left) (start .pre .1)))
+    (omega (arith, kind-small (start .args .k), c .kind .ensures), omega (arith, near (start .args .k) _ (at-reach .reach .ensures) (c .before .before .before .before .before .if2 .left) (start .pre .1)))
 
 returns-4 : tie.Need-returns-4
 returns-4 c =
     let at-lay = c .before .before .before .before .before .before .before in
-    let at-if3 = at-lay .before .before .before .before .before in
+    let at-if3 = at-lay .before .before .before .before .before .before in
     let at-if2 = at-if3 .before in
     let at-if1 = at-if2 .before in
     let at-may-store = at-if1 .before .before in
     let at-reach = at-may-store .before .before in
     let start = at-reach .before .before .before .before in
     λ x _. rw (c .refused3 .ensures, c .before .keeping .ensures) (poke-full (start .args .k) _ _ _ x (at-if1 .if1 .left) (at-reach .reach .ensures) _ _ (at-if2 .if2 .left)
-    (sym (at-may-store .may-store .ensures) ∙ granted _ (at-if3 .if3 .left)) (not-done _ _ (at-lay .lay .ensures (with (start .args .k) _ [] (start .args .m .book) x)) (denied _ (c .before .before .if4 .taken))))
+    (sym (at-may-store .may-store .ensures) ∙ granted _ (at-if3 .if3 .left)) (not-done _ _ _ _ _ (with (start .args .k) _ [] (bookIn x) x) (at-lay .lay .ensures (with (start .args .k) _ [] (bookIn x) x)) (c .before .before .if4 .taken)))
 
 slice-write-memory : tie.Need-slice-write-memory
 slice-write-memory c =
-    let at-if2 = c .before .before .before .before .before .before .before .before .before .before .before in
+    let at-if2 = c .before .before .before .before .before .before .before .before .before .before .before .before in
     let at-reach = at-if2 .before .before .before .before .before in
     let start = at-reach .before .before .before .before in
     within (start .args .k) (at-reach .reach .ensures) (start .pre .0) (at-if2 .if2 .left)
@@ -70,17 +70,17 @@ returns-5 c =
     let at-lay = c .before .before .before .before .before .before in
     let at-pack = at-lay .before in
     let at-kind = at-pack .before in
-    let at-if3 = at-kind .before .before .before in
+    let at-if3 = at-kind .before .before .before .before in
     let at-if2 = at-if3 .before in
     let at-if1 = at-if2 .before in
     let at-may-store = at-if1 .before .before in
     let at-reach = at-may-store .before .before in
     let start = at-reach .before .before .before .before in
     λ x _. rw (c .keeping2 .ensures) (poked (start .args .k) _ _ _ x (at-if1 .if1 .left) (at-reach .reach .ensures) _ _ (at-if2 .if2 .left) (sym (at-may-store .may-store .ensures) ∙ granted _ (at-if3 .if3 .left))
-    (start .fits .b .fits) (at-kind .kind .ensures) (at-pack .pack .ensures) (done-so _ _ (at-lay .lay .ensures (with (start .args .k) _ [] (start .args .m .book) x)) (granted _ (c .before .if4 .left))))
+    (start .fits .b .fits) (at-kind .kind .ensures) (at-pack .pack .ensures) (done-so _ _ _ _ _ (with (start .args .k) _ [] (bookIn x) x) (at-lay .lay .ensures (with (start .args .k) _ [] (bookIn x) x)) (c .before .if4 .left)))
 
 pub store-spec : {M : Type 1} → statement M
 store-spec =
-    tie.close (tie.spec (search needs) (search needs) (search needs) returns (search needs) returns-2 (search needs) returns-3 slice-read-old cast-a
-    (search needs) pack-requires (search needs) (search needs) (search needs) (search needs) returns-4 slice-write-memory (search needs)
-    (search needs) (search needs) returns-5)
+    tie.close (tie.spec (search needs) (search needs) (search needs) returns (search needs) returns-2 (search needs) returns-3
+    slice-read-old cast-a (search needs) pack-requires (search needs) (search needs) (search needs) (search needs) (search needs)
+    returns-4 slice-write-memory (search needs) (search needs) (search needs) (search needs) (search needs) returns-5)

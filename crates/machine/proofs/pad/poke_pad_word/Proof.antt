@@ -10,14 +10,14 @@ use Rattle.machine.proofs.pad.poke_pad_word.Tie as tie
 returns : tie.Need-returns
 unfolding pokeWord
 returns c =
-    let at-poke-pad = c .before .before .before .before .before .before .before .before .before .before .before in
-    let at-low-of = at-poke-pad .before .before .before in
+    let at-poke-pad = c .before .before .before .before .before .before .before .before .before .before .before .before .before .before .before .before in
+    let at-low-of = at-poke-pad .before .before .before .before in
     let at-high-of = at-low-of .before in
     λ _.
     seq (via (poke cpu _) (at-high-of .high-of .ensures) (at-poke-pad .poke-pad .ensures _))
-    (via (poke cpu _) (at-low-of .low-of .ensures) (c .before .before .before .before .poke-pad2 .ensures _))
+    (via (poke cpu _) (at-low-of .low-of .ensures) (c .before .before .before .before .before .before .poke-pad2 .ensures _))
 
 pub poke-pad-word-spec : {M : Type 1} → statement M
 poke-pad-word-spec =
     tie.close (tie.spec (search needs) (search needs) (search needs) (search needs) (search needs) (search needs) (search needs)
-    returns)
+    (search needs) returns)

@@ -6,7 +6,7 @@ use Rattle.machine.proofs.vdp.peek_vdp.Statement.{statement}
 use Rattle.machine.proofs.vdp.peek_vdp.Tie as tie
 
 returns : tie.Need-returns
-returns c = λ rest. c .load .ensures (unbooked (rest .image) (rest .groups) (rest .pad) [] (rest .regs) (rest .journal)) (rest .map)
+returns c = λ w. c .load .ensures (unbooked (w .rest .image) (w .rest .groups) (w .rest .pad) [] (w .rest .regs) (w .rest .journal) (w .older) (w .place)) (w .ring) (w .rest .map)
 
 pub peek-vdp-spec : {M : Type 1} → statement M
 peek-vdp-spec =

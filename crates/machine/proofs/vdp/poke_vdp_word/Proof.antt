@@ -10,14 +10,14 @@ use Rattle.machine.proofs.vdp.poke_vdp_word.Tie as tie
 returns : tie.Need-returns
 unfolding pokeWord
 returns c =
-    let at-poke-vdp = c .before .before .before .before .before .before .before .before .before .before .before in
-    let at-low-of = at-poke-vdp .before .before .before in
+    let at-poke-vdp = c .before .before .before .before .before .before .before .before .before .before .before .before .before .before .before .before in
+    let at-low-of = at-poke-vdp .before .before .before .before in
     let at-high-of = at-low-of .before in
     λ _.
     seq (via (poke vdp _) (at-high-of .high-of .ensures) (at-poke-vdp .poke-vdp .ensures _))
-    (via (poke vdp _) (at-low-of .low-of .ensures) (c .before .before .before .before .poke-vdp2 .ensures _))
+    (via (poke vdp _) (at-low-of .low-of .ensures) (c .before .before .before .before .before .before .poke-vdp2 .ensures _))
 
 pub poke-vdp-word-spec : {M : Type 1} → statement M
 poke-vdp-word-spec =
     tie.close (tie.spec (search needs) (search needs) (search needs) (search needs) (search needs) (search needs) (search needs)
-    returns)
+    (search needs) returns)

@@ -8,8 +8,8 @@ use Rattle.operand.proofs.decode.through_pad.Tie as tie
 returns : tie.Need-returns
 unfolding throughPad
 returns c =
-    let at-if1 = c .before .before .before .before .before .before .before in
-    λ _. rw (eq-eqb _ _ (at-if1 .if1 .taken)) (c .before .before .before .before .pop-cell .ensures _)
+    let at-if1 = c .before .before .before .before .before .before .before .before .before .before in
+    λ _. rw (eq-eqb _ _ (at-if1 .if1 .taken)) (c .before .before .before .before .before .before .pop-cell .ensures _)
 
 returns-2 : tie.Need-returns-2
 unfolding throughPad
@@ -17,4 +17,5 @@ returns-2 c = λ _. rw (ne-eqb _ _ (c .before .before .if1 .left)) (c .through-b
 
 pub through-pad-spec : {M : Type 1} → statement M
 through-pad-spec =
-    tie.close (tie.spec (search needs) (search needs) (search needs) returns (search needs) (search needs) returns-2)
+    tie.close (tie.spec (search needs) (search needs) (search needs) (search needs) returns (search needs) (search needs)
+    returns-2)

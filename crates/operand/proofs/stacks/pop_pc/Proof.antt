@@ -12,8 +12,8 @@ use Rattle.operand.proofs.stacks.pop_pc.Tie as tie
 returns : tie.Need-returns
 unfolding popPc
 returns c =
-    let at-poke-pad = c .before .before .before .before .before in
-    let at-peek-pad-word = at-poke-pad .before .before .before in
+    let at-poke-pad = c .before .before .before .before .before .before .before in
+    let at-peek-pad-word = at-poke-pad .before .before .before .before in
     let at-need-on-stack = at-peek-pad-word .before .before in
     let at-wrapping-sub-u8 = at-need-on-stack .before in
     let at-peek-pad = at-wrapping-sub-u8 .before .before .before in
@@ -28,4 +28,4 @@ returns c =
 pub pop-pc-spec : {M : Type 1} → statement M
 pop-pc-spec =
     tie.close (tie.spec (search needs) (search needs) (search needs) (search needs) (search needs) (search needs) (search needs)
-    (search needs) (search needs) (search needs) returns)
+    (search needs) (search needs) (search needs) (search needs) returns)

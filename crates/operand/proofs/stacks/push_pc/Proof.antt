@@ -9,10 +9,10 @@ use Rattle.operand.proofs.stacks.push_pc.Tie as tie
 returns : tie.Need-returns
 unfolding pushPc
 returns c =
-    let at-raise = c .before .before .before .before .before .before .before .before .before .before .before .before in
+    let at-raise = c .before .before .before .before .before .before .before .before .before .before .before .before .before .before .before .before .before in
     λ _.
-    bind _ (at-raise .raise .ensures _) (bind _ here-is (c .before .before .before .before .poke-pad-word .ensures _))
+    bind _ (at-raise .raise .ensures _) (bind _ here-is (c .before .before .before .before .before .before .poke-pad-word .ensures _))
 
 pub push-pc-spec : {M : Type 1} → statement M
 push-pc-spec =
-    tie.close (tie.spec (search needs) (search needs) (search needs) (search needs) (search needs) returns)
+    tie.close (tie.spec (search needs) (search needs) (search needs) (search needs) (search needs) (search needs) returns)

@@ -12,8 +12,8 @@ use Rattle.operand.proofs.stacks.raise.Tie as tie
 returns : tie.Need-returns
 unfolding raise
 returns c =
-    let at-poke-pad = c .before .before .before .before .before in
-    let at-need-on-stack = at-poke-pad .before .before .before in
+    let at-poke-pad = c .before .before .before .before .before .before .before in
+    let at-need-on-stack = at-poke-pad .before .before .before .before in
     let at-peek-pad = at-need-on-stack .before .before in
     let rest : ℕ → Rule ℕ = λ x. poke cpu subPointer x >> give x in
     λ _.
@@ -24,4 +24,4 @@ returns c =
 pub raise-spec : {M : Type 1} → statement M
 raise-spec =
     tie.close (tie.spec (search needs) (search needs) (search needs) (search needs) (search needs) (search needs) (search needs)
-    (search needs) (search needs) returns)
+    (search needs) (search needs) (search needs) returns)

@@ -10,12 +10,12 @@ use Rattle.operand.proofs.status.set_condition.Tie as tie
 returns : tie.Need-returns
 unfolding setCondition
 returns c =
-    let at-with-condition = c .before .before .before .before .before .before .before in
+    let at-with-condition = c .before .before .before .before .before .before .before .before .before .before in
     let at-peek-pad = at-with-condition .before in
     λ _.
     bind _ (at-peek-pad .peek-pad .ensures _)
-    (via (poke cpu _) (at-with-condition .with-condition .ensures) (c .before .before .before .before .poke-pad .ensures _))
+    (via (poke cpu _) (at-with-condition .with-condition .ensures) (c .before .before .before .before .before .before .poke-pad .ensures _))
 
 pub set-condition-spec : {M : Type 1} → statement M
 set-condition-spec =
-    tie.close (tie.spec (search needs) (search needs) (search needs) (search needs) (search needs) returns)
+    tie.close (tie.spec (search needs) (search needs) (search needs) (search needs) (search needs) (search needs) returns)

@@ -9,15 +9,16 @@ use Rattle.operand.proofs.values.operand_value.Tie as tie
 returns : tie.Need-returns
 unfolding operandValue
 returns c =
-    let at-place-of = c .before .before .before .before .before in
-    let at-now-of = at-place-of .before .before .before in
-    let at-operand = at-now-of .before .before .before .before .before .before .before in
+    let at-place-of = c .before .before .before .before .before .before .before in
+    let at-now-of = at-place-of .before .before .before .before in
+    let at-operand = at-now-of .before .before .before .before .before .before .before .before .before in
     let at-byte-count = at-operand .before in (
-      c .before .before .before .before .value .ensures .0,
-      λ _. bind _ (apart _ (at-operand .operand .result) (via operandOf (at-byte-count .byte-count .ensures .0) (at-operand .operand .ensures .1 _))
-          (at-now-of .now-of .ensures) (at-place-of .place-of .ensures)) (c .before .before .before .before .value .ensures .1 _),
+      c .before .before .before .before .before .before .value .ensures .0,
+      λ _. bind _ (apart _ _ _ _ (at-operand .operand .result) (via operandOf (at-byte-count .byte-count .ensures .0) (at-operand .operand .ensures .1 _))
+          (at-now-of .now-of .ensures) (at-place-of .place-of .ensures)) (c .before .before .before .before .before .before .value .ensures .1 _),
     )
 
 pub operand-value-spec : {M : Type 1} → statement M
 operand-value-spec =
-    tie.close (tie.spec (search needs) (search needs) (search needs) (search needs) (search needs) (search needs) (search needs) (search needs) returns)
+    tie.close (tie.spec (search needs) (search needs) (search needs) (search needs) (search needs) (search needs) (search needs)
+    (search needs) (search needs) returns)

@@ -9,9 +9,9 @@ use Rattle.operand.proofs.values.refresh.Tie as tie
 returns : tie.Need-returns
 unfolding refresh
 returns c =
-    let at-if1 = c .before .before .before .before .before .before .before in
+    let at-if1 = c .before .before .before .before .before .before .before .before .before .before in
     let at-is-buffer = at-if1 .before in
-    λ _. rw (sym (at-is-buffer .is-buffer .ensures) ∙ at-if1 .if1 .taken) (c .before .before .before .before .load-buffer .ensures _)
+    λ _. rw (sym (at-is-buffer .is-buffer .ensures) ∙ at-if1 .if1 .taken) (c .before .before .before .before .before .before .load-buffer .ensures _)
 
 returns-2 : tie.Need-returns-2
 unfolding refresh
@@ -19,4 +19,4 @@ returns-2 c = λ _. rw (sym (c .before .is-buffer .ensures) ∙ c .if1 .left) id
 
 pub refresh-spec : {M : Type 1} → statement M
 refresh-spec =
-    tie.close (tie.spec (search needs) (search needs) (search needs) (search needs) returns returns-2)
+    tie.close (tie.spec (search needs) (search needs) (search needs) (search needs) (search needs) returns returns-2)

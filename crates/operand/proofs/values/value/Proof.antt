@@ -8,9 +8,9 @@ use Rattle.operand.proofs.values.value.Tie as tie
 returns : tie.Need-returns
 unfolding value
 returns c =
-    let at-refresh = c .before .before .before .before .before .before in
+    let at-refresh = c .before .before .before .before .before .before .before .before in
     (c .standing .ensures .0, λ _. seq (at-refresh .refresh .ensures _) (c .standing .ensures .1 _))
 
 pub value-spec : {M : Type 1} → statement M
 value-spec =
-    tie.close (tie.spec (search needs) (search needs) (search needs) (search needs) returns)
+    tie.close (tie.spec (search needs) (search needs) (search needs) (search needs) (search needs) returns)

@@ -1,27 +1,35 @@
--- Room left or made, or none: by what was spared.
-use mathlib.Core.Path.{_∙_, ap, sym}
-use borrow.Author.Tests.{lt-ltb, le-ltb}
+-- In a plain journal as above; in a ring with room left, with none to be made, or with room made.
+use Rattle.ring.proofs.Books.{second, ring-room, ring-full, ring-laid}
 use borrow.Author.Needs.{needs}
-use Rattle.rules.specs.Rules.{room}
-use Rattle.rules.specs.Journal as journal
-use Rattle.ring.specs.Meaning.{booked}
-use Rattle.ring.proofs.Turned.{as-long, no-longer}
-use Rattle.ring.proofs.Books.{lays, lays-not, lays-there}
 use Rattle.ring.proofs.book.lay_round.Statement.{statement}
 use Rattle.ring.proofs.book.lay_round.Tie as tie
 
 returns : tie.Need-returns
-returns c = λ x. lays-there _ (booked _ _ x) (as-long _ _ _ (c .before .before .before .before .if1 .taken)) (c .before .before .put .ensures x)
+returns c = c .before .before .lay-plain .ensures _ (c .before .before .before .before .if1 .taken)
 
 returns-2 : tie.Need-returns-2
-returns-2 c = λ x. lays-not _ (booked _ _ x) (ap room (sym (c .before .before .before .spare .ensures x)) ∙ le-ltb _ _ (no-longer _ _ _ (c .if2 .taken))) (c .before .before .before .spare .ensures x)
+returns-2 c =
+    let at-if1 = c .before .before .before .before .before .before .before in
+    λ x. ring-room _ _ _ _ x (at-if1 .if1 .left) _ (c .before .before .before .before .if2 .taken) (c .before .before .put .ensures x)
+
+slice-write-ring-2 : tie.Need-slice-write-ring-2
+slice-write-ring-2 c =
+    let at-if1 = c .before .before .before .before .before .before .before in
+    let start = at-if1 .before .before .before in
+    second (start .args .ring .now) (c .before .before .spare .result .older) (at-if1 .if1 .left)
 
 returns-3 : tie.Need-returns-3
 returns-3 c =
+    let at-if1 = c .before .before .before .before .before .before .before .before in
+    λ x. ring-full _ _ _ _ x (at-if1 .if1 .left) _ _ (c .before .before .before .spare .ensures x) (c .if3 .taken)
+
+returns-4 : tie.Need-returns-4
+returns-4 c =
     let at-spare = c .before .before .before .before .before .before .before in
-    λ x. lays _ (booked _ _ x) (ap room (sym (at-spare .spare .ensures x)) ∙ lt-ltb _ _ (as-long _ _ _ (c .before .before .before .before .if2 .left)))
-    (c .before .before .put2 .ensures x ∙ ap (journal.lay _) (at-spare .spare .ensures x))
+    let at-if1 = at-spare .before .before .before .before .before in
+    λ x. ring-laid _ _ _ _ x (at-if1 .if1 .left) _ _ (at-spare .spare .ensures x) _ (c .before .before .before .before .if3 .left) (c .before .before .put2 .ensures x)
 
 pub lay-round-spec : {M : Type 1} → statement M
 lay-round-spec =
-    tie.close (tie.spec (search needs) (search needs) returns (search needs) (search needs) returns-2 (search needs) (search needs) returns-3)
+    tie.close (tie.spec (search needs) (search needs) returns (search needs) (search needs) (search needs) (search needs) returns-2 (search needs)
+    (search needs) slice-write-ring-2 (search needs) (search needs) returns-3 (search needs) (search needs) (search needs) returns-4)

@@ -9,4 +9,4 @@ returns c = λ x. laid _ (c .before .before .args .b) x _ _ (c .before .before .
 
 pub put-spec : {M : Type 1} → statement M
 put-spec =
-    tie.close (tie.spec (search needs) (search needs) (search needs) (search needs) (search needs) returns)
+    tie.close (tie.spec (search needs) (search needs) (search needs) (search needs) returns)

@@ -28,5 +28,5 @@ returns-3 c =
 
 pub block-spec : {M : Type 1} → statement M
 block-spec =
-    tie.close (tie.spec (search needs) (search needs) returns (search needs) (search needs) returns-2 (search needs) (search needs)
-    (search needs) returns-3)
+    tie.close (tie.spec (search needs) (search needs) returns (search needs) (search needs) returns-2 (search needs)
+    (search needs) (search needs) returns-3)

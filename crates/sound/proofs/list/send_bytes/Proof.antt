@@ -48,5 +48,5 @@ returns-2 c = λ _. over (c .before .loop .inv .0 _) (no-more _ _ _ (c .loop-tes
 
 pub send-bytes-spec : {M : Type 1} → statement M
 send-bytes-spec =
-    tie.close (tie.spec Inv-loop μ-loop loop-holds (search needs) (search needs) (search needs) returns (search needs) (search needs)
-    (search needs) loop-again (search needs) (search needs) returns-2)
+    tie.close (tie.spec Inv-loop μ-loop loop-holds (search needs) (search needs) (search needs) returns (search needs)
+    (search needs) (search needs) loop-again (search needs) (search needs) returns-2)
