@@ -1,6 +1,11 @@
 -- What the code's two ends of a MOVE say, in the words of the rules.
-use Rattle.rules.specs.Machine.{cpu, vdp, register, grom}
+use mathlib.Core.List.{[]}
+use mathlib.Core.Bool.{Bool, true}
+use Prim.Native.Nat.{ℕ, _+_}
+use lib.Dec.{ltb, leb, eqb}
+use Rattle.rules.specs.Machine.{_also_, cpu, vdp, register, grom}
 use Rattle.rules.specs.Operands.{Cell, cell}
+use Rattle.machine.specs.Meaning.{Parts, mapFrom}
 use Rattle.block.specs.declared.ends.Target.{Target}
 use Rattle.block.specs.declared.ends.Target.the-variants.{Pad, Video, Register, Gram}
 use Rattle.block.specs.declared.ends.Origin.{Origin}
@@ -18,3 +23,17 @@ abbrev pub originOf : Origin → Cell
 originOf (Grom a) = cell grom a
 originOf (Cpu a) = cell cpu a
 originOf (Vdp a) = cell vdp a
+
+-- nothing is said of a map: none is kept
+abbrev pub NoMap : Parts → Parts
+NoMap = mapFrom [] []
+
+-- whether n bytes from there to VDP RAM can go in a loop of their own, by the length of the map: from GROM with none, and with no address that wraps
+abbrev pub countable : ℕ → Origin → ℕ → Bool
+countable z (Grom a) n = eqb z 0 also leb (a + n) 65536
+countable z (Cpu a) n = true
+countable z (Vdp a) n = true
+
+-- whether they do, by the length of the ring too: a plain journal has none
+abbrev pub straight : ℕ → ℕ → Origin → ℕ → Bool
+straight z r f n = ltb r 2 also countable z f n

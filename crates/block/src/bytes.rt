@@ -3,12 +3,13 @@ use crate::ends::Origin;
 use crate::ends::Target;
 use machine::cells;
 use machine::state::Now;
+ghost use Prim.Native.Nat.{_+_, _<_};
 ghost use Rattle.rules.specs.Machine.{cpu, grom, register, vdp};
 ghost use Rattle.rules.specs.Operands.{cell};
 ghost use Rattle.rules.specs.Instructions.{beyond, sourceByte, registerOne, moveByte};
 ghost use Rattle.rules.specs.Instructions;
 ghost use Rattle.machine.specs.Meaning.{_&_, Does, Gives, Groups, Image, IsPad, IsRegs, IsVram, Journal, Map, Pad, Regs, Ring, Vram};
-ghost use Rattle.block.specs.Meaning.{targetOf, originOf};
+ghost use Rattle.block.specs.Meaning.{targetOf, originOf, NoMap};
 
 // A GROM address counts in 16 bits.
 fn source_byte(
@@ -146,10 +147,9 @@ pub fn move_byte(
     )
 }
 
-// From GROM to VDP RAM.
+// From GROM to VDP RAM, at an address that does not wrap, with no map to mark.
 pub fn grom_to_vdp(
     image: &[u8],
-    map: &mut [u8],
     vram: &mut [u8],
     journal: &mut [u32],
     ring: &mut [usize],
@@ -158,10 +158,11 @@ pub fn grom_to_vdp(
     t: u16,
     k: u16,
 ) -> Now
-    requires { ⌜ IsVram vram ⌝ }
-    ensures { λ r. ⌜ Does (moveByte (cell grom a) (cell vdp t) k) (Image image & Map map & Vram vram & Journal journal & Ring ring) m r ⌝ }
+    requires { ⌜ IsVram vram × (a + k < 65536) ⌝ }
+    ensures { λ r. ⌜ Does (moveByte (cell grom a) (cell vdp t) k) (Image image & NoMap & Vram vram & Journal journal & Ring ring) m r ⌝ }
 {
-    let b = machine::grom::grom_byte(image, map, m, number::addresses::plus(a, k));
+    let from = a + k;
+    let b = machine::grom::grom_byte(image, &mut [], m, from);
     let at = t as usize + k as usize;
     machine::vdp::poke_vdp(vram, journal, ring, b, at, b.byte)
 }

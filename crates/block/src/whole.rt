@@ -5,11 +5,14 @@ use crate::ends::Origin;
 use crate::ends::Target;
 use machine::state::Now;
 ghost use mathlib.Core.Path.{_≡_};
+ghost use Prim.Native.Nat.{_+_, _≤_};
+ghost use lib.ListN.{length};
 ghost use Rattle.rules.specs.Machine.{cpu, grom, vdp};
 ghost use Rattle.rules.specs.Operands.{cell};
 ghost use Rattle.rules.specs.Instructions.{moveCount, moveBytes, moveRule};
 ghost use Rattle.machine.specs.Meaning.{_&_, Does, Groups, Image, IsPad, IsRegs, IsVram, Journal, Map, Pad, Regs, Ring, Vram};
-ghost use Rattle.block.specs.Meaning.{targetOf, originOf};
+ghost use Rattle.block.specs.Meaning;
+ghost use Rattle.block.specs.Meaning.{targetOf, originOf, NoMap};
 
 // How many bytes a length moves: from 1 to >8000 as many, any other one.
 fn move_count(l: u16) -> u16
@@ -24,10 +27,9 @@ fn move_count(l: u16) -> u16
     1
 }
 
-// From GROM to VDP RAM, in a loop of its own.
+// From GROM to VDP RAM, in a loop of its own: no address wraps, and there is no map to mark.
 fn grom_bytes(
     image: &[u8],
-    map: &mut [u8],
     vram: &mut [u8],
     journal: &mut [u32],
     ring: &mut [usize],
@@ -36,13 +38,13 @@ fn grom_bytes(
     a: u16,
     t: u16,
 ) -> Now
-    requires { ⌜ IsVram vram ⌝ }
-    ensures { λ r. ⌜ Does (moveBytes n 0 (cell grom a) (cell vdp t)) (Image image & Map map & Vram vram & Journal journal & Ring ring) m r ⌝ }
+    requires { ⌜ IsVram vram × (a + n ≤ 65536) ⌝ }
+    ensures { λ r. ⌜ Does (moveBytes n 0 (cell grom a) (cell vdp t)) (Image image & NoMap & Vram vram & Journal journal & Ring ring) m r ⌝ }
 {
     let mut x = m;
     let mut k: u16 = 0;
     while k < n {
-        x = bytes::grom_to_vdp(image, map, vram, journal, ring, x, a, t, k);
+        x = bytes::grom_to_vdp(image, vram, journal, ring, x, a, t, k);
         if x.answer != 0 {
             return x;
         }
@@ -143,7 +145,27 @@ fn any_bytes(
     x
 }
 
-// The bytes one by one, until one is refused. What goes to VDP RAM has loops of its own, but not in a ring.
+// Whether what goes to VDP RAM has a loop of its own: not in a ring; and from GROM with no map, and with no address that wraps.
+fn straight(map: &[u8], ring: &[usize], from: Origin, n: u16) -> bool
+    ensures { λ r. ⌜ r ≡ Meaning.straight (length (now (map .entry))) (length (now (ring .entry))) from n ⌝ }
+{
+    if 2 <= ring.len() {
+        return false;
+    }
+    match from {
+        Origin::Grom(a) => {
+            if map.len() != 0 {
+                return false;
+            }
+            let end = a as usize + n as usize;
+            end <= 65536
+        }
+        Origin::Cpu(_) => true,
+        Origin::Vdp(_) => true,
+    }
+}
+
+// The bytes one by one, until one is refused. What goes to VDP RAM has loops of its own.
 fn move_bytes(
     image: &mut [u8],
     map: &mut [u8],
@@ -161,10 +183,10 @@ fn move_bytes(
     requires { ⌜ IsPad pad × IsVram vram × IsRegs regs ⌝ }
     ensures { λ r. ⌜ Does (moveBytes n 0 (originOf from) (targetOf to)) (Image image & Map map & Groups groups & Pad pad & Vram vram & Regs regs & Journal journal & Ring ring) m r ⌝ }
 {
-    if ring.len() < 2 {
+    if straight(map, ring, from, n) {
         if let Target::Video(t) = to {
             match from {
-                Origin::Grom(a) => return grom_bytes(image, map, vram, journal, ring, m, n, a, t),
+                Origin::Grom(a) => return grom_bytes(image, vram, journal, ring, m, n, a, t),
                 Origin::Cpu(a) => return pad_bytes(pad, vram, journal, ring, m, n, a, t),
                 Origin::Vdp(a) => return vdp_bytes(vram, journal, ring, m, n, a, t),
             }
