@@ -29,6 +29,10 @@ pub fn show(
     requires { ⌜ IsPad pad × IsVram vram × (step ≤ 32) ⌝ }
     ensures { λ r. ⌜ Does (Format.show step b) (Pad pad & Vram vram & Journal journal & Ring ring) m r ⌝ }
 {
+    // A machine that has refused goes no further: it keeps the refused way short where this is put in line.
+    if m.answer != 0 {
+        return m;
+    }
     let p = operand::screen::position(pad, m);
     let at = p.word as usize;
     let drawn = machine::vdp::poke_vdp(vram, journal, ring, p, at, b);
