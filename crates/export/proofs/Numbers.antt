@@ -69,7 +69,8 @@ module _ (s : State) where
   unfolding run steps counted
   run-once = go (fits (s .mem)) refl
     where
-      go : (c : Bool) → fits (s .mem) ≡ c → pick c (steps 1 s) (report (answerFor wrongLength) 0 0 s) ≡ tallied (step instruction s) (answer (step instruction s) .address) (made instruction s (step instruction s))
+      go : (c : Bool) → fits (s .mem) ≡ c → pick c (steps 1 s) (report (answerFor wrongLength) 0 0 s) ≡ tallied (step instruction s) (answer (step instruction
+          s) .address) (made instruction s (step instruction s))
       go true e = once (step instruction s)
       go false e = rw (step-unfit instruction s e)
 

@@ -29,7 +29,8 @@ unfolding lines.before lines.digit lines.laid feeds onto linesOf value allDigits
 sample-bad = refl
 
 -- in an image of 32 bytes: sound; an address twice; beyond the image, at its end, and a record of no bytes there; no end record; no text; more after the end record
-pub sample-told : map (λ (t : List ℕ). judged (zeros 32) 1 (records t)) (ascii ":0100050000FA\n:00000001FF\n" ∷ ascii ":0100050000FA\n:0100050000FA\n" ∷ ascii ":0100200000DF\n" ∷ ascii ":01001F0000E0\n:00000001FF\n"
+pub sample-told : map (λ (t : List ℕ). judged (zeros 32) 1 (records t)) (ascii ":0100050000FA\n:00000001FF\n" ∷ ascii ":0100050000FA\n:0100050000FA\n" ∷ ascii
+    ":0100200000DF\n" ∷ ascii ":01001F0000E0\n:00000001FF\n"
     ∷ ascii ":00FFFF0002\n:00000001FF\n" ∷ ascii ":0100050000FA\n" ∷ ascii "" ∷ ascii ":00000001FF\n\n" ∷ ascii ":00000001FF\n:00000001FF" ∷ [])
     ≡ told 0 0 ∷ told 21 2 ∷ told 20 1 ∷ told 0 0 ∷ told 0 0 ∷ told 22 2 ∷ told 22 1 ∷ told 20 2 ∷ told 20 2 ∷ []
 unfolding lines.before lines.digit lines.laid feeds onto linesOf value allDigits pair pairs formed fields total checked ends typed recordOf records idle trial judged filled

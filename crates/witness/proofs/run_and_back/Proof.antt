@@ -20,7 +20,8 @@ returns c =
     let at-slice-known = at-slice-known2 .before in
     let start = at-slice-known .before in
     let steps = at-run .run .result .steps in
-    λ _. ran-back steps (at-take-back .take-back .ensures _ _ (instructions steps) (length-replicate steps _) (ran-behind _ (good-of _ {at = forgetting (start .args .at)} (omega (arith, start .good .1 .1 .1 .1 .1 .0)) (omega (arith, start .good .1 .1 .1 .1 .1 .0)) (at-slice-known .slice-known .given)
+    λ _. ran-back steps (at-take-back .take-back .ensures _ _ (instructions steps) (length-replicate steps _) (ran-behind _ (good-of _ {at = forgetting (start
+    .args .at)} (omega (arith, start .good .1 .1 .1 .1 .1 .0)) (omega (arith, start .good .1 .1 .1 .1 .1 .0)) (at-slice-known .slice-known .given)
     (at-slice-known2 .slice-known2 .given) (at-slice-known3 .slice-known3 .given) (at-slice-known4 .slice-known4 .given)) refl (at-run .run .ensures _)))
 
 pub run-and-back-spec : {M : Type 1} → statement M

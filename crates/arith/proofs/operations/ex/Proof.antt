@@ -8,7 +8,9 @@ use Rattle.arith.proofs.operations.ex.Tie as tie
 
 same-length : tie.Need-same-length
 same-length c =
-    let at-read-target2 = c .before .before .before .before .before .before .before .before .before .before .before .before .before .before .before .before .before .before .before .before .before .before .before .before .before .before .before .before .before .before .before .before .before .before .before in
+    let at-read-target2 = c .before .before .before .before .before .before .before .before .before .before .before .before .before .before .before .before
+    .before .before .before .before .before .before .before .before .before .before .before .before .before .before .before .before .before .before
+    .before in
     let at-read-target = at-read-target2 .before .before .before .before .before .before .before .before .before .before .before .before .before .before .before in
     at-read-target2 .read-target2 .kept .1 .0 ∙ at-read-target .read-target .kept .1 .0
 

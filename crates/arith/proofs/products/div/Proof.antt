@@ -11,7 +11,9 @@ use Rattle.arith.proofs.products.div.Tie as tie
 
 same-length : tie.Need-same-length
 same-length c =
-    let at-source = c .before .before .before .before .before .before .before .before .before .before .before .before .before .before .before .before .before .before .before .before .before .before .before .before .before .before .before .before .before .before .before .before .before .before .before .before in
+    let at-source = c .before .before .before .before .before .before .before .before .before .before .before .before .before .before .before .before .before
+    .before .before .before .before .before .before .before .before .before .before .before .before .before .before .before .before .before .before
+    .before in
     let at-read-target = at-source .before .before .before .before .before .before .before .before .before .before .before .before .before .before .before in
     at-source .source .kept .1 .0 ∙ at-read-target .read-target .kept .1 .0
 
@@ -24,7 +26,9 @@ poke-pad-requires c κs =
 
 low-half-requires : tie.Need-low-half-requires
 low-half-requires c κs =
-    let at-read-target = c .before .before .before .before .before .before .before .before .before .before .before .before .before .before .before .before .before .before .before .before .before .before .before .before .before .before .before .before .before .before .before .before .before .before .before .before in
+    let at-read-target = c .before .before .before .before .before .before .before .before .before .before .before .before .before .before .before .before
+    .before .before .before .before .before .before .before .before .before .before .before .before .before .before .before .before .before .before .before
+    .before in
     at-read-target .read-target .ensures .0
 
 standing-requires : tie.Need-standing-requires

@@ -23,7 +23,8 @@ along-requires c κs =
 
 along-requires-2 : tie.Need-along-requires-2
 along-requires-2 c κs =
-    let start = c .before .before .before .before .before .before .before .before .before .before .before .before .before .before .before .before .before .before .before .before .before .before .before in
+    let start = c .before .before .before .before .before .before .before .before .before .before .before .before .before .before .before .before .before
+    .before .before .before .before .before .before in
     start .pre
 
 same-length : tie.Need-same-length
@@ -32,7 +33,8 @@ same-length c =
     let at-table-byte3 = at-table-byte4 .before .before .before .before in
     let at-table-byte2 = at-table-byte3 .before .before .before .before in
     let at-table-byte = at-table-byte2 .before .before .before .before in
-    c .before .before .meets .kept .1 .0 ∙ at-table-byte4 .table-byte4 .kept .1 .0 ∙ at-table-byte3 .table-byte3 .kept .1 .0 ∙ at-table-byte2 .table-byte2 .kept .1 .0 ∙ at-table-byte .table-byte .kept .1 .0
+    c .before .before .meets .kept .1 .0 ∙ at-table-byte4 .table-byte4 .kept .1 .0 ∙ at-table-byte3 .table-byte3 .kept .1 .0 ∙ at-table-byte2 .table-byte2
+    .kept .1 .0 ∙ at-table-byte .table-byte .kept .1 .0
 
 returns : tie.Need-returns
 unfolding inTable

@@ -13,7 +13,8 @@ same-length c =
     let at-granularity = at-next-word .before .before .before .before in
     let at-operand-value2 = at-granularity .before .before .before .before .before .before .before .before .before .before in
     let at-operand-value = at-operand-value2 .before .before .before .before .before .before .before .before .before .before .before .before .before in
-    at-look-up .look-up .kept .1 .0 ∙ at-next-word .next-word .kept .1 .0 ∙ at-granularity .granularity .kept .1 .0 ∙ at-operand-value2 .operand-value2 .kept .1 .0 ∙ at-operand-value .operand-value .kept .1 .0
+    at-look-up .look-up .kept .1 .0 ∙ at-next-word .next-word .kept .1 .0 ∙ at-granularity .granularity .kept .1 .0 ∙ at-operand-value2 .operand-value2 .kept
+    .1 .0 ∙ at-operand-value .operand-value .kept .1 .0
 
 look-up-requires : tie.Need-look-up-requires
 look-up-requires c κs =
@@ -26,21 +27,24 @@ look-up-requires c κs =
 same-length-2 : tie.Need-same-length-2
 same-length-2 c =
     let at-look-up = c .before .before .before .before .before .before .before .before in
-    let at-operand-value2 = at-look-up .before .before .before .before .before .before .before .before .before .before .before .before .before .before .before .before .before .before .before .before .before in
+    let at-operand-value2 = at-look-up .before .before .before .before .before .before .before .before .before .before .before .before .before .before .before
+    .before .before .before .before .before .before in
     let at-operand-value = at-operand-value2 .before .before .before .before .before .before .before .before .before .before .before .before .before in
     at-look-up .look-up .kept .1 .1 .0 ∙ at-operand-value2 .operand-value2 .kept .1 .1 .0 ∙ at-operand-value .operand-value .kept .1 .1 .0
 
 same-length-3 : tie.Need-same-length-3
 same-length-3 c =
     let at-look-up = c .before .before .before .before .before .before .before .before in
-    let at-operand-value2 = at-look-up .before .before .before .before .before .before .before .before .before .before .before .before .before .before .before .before .before .before .before .before .before in
+    let at-operand-value2 = at-look-up .before .before .before .before .before .before .before .before .before .before .before .before .before .before .before
+    .before .before .before .before .before .before in
     let at-operand-value = at-operand-value2 .before .before .before .before .before .before .before .before .before .before .before .before .before in
     at-look-up .look-up .kept .1 .1 .1 .0 ∙ at-operand-value2 .operand-value2 .kept .1 .1 .1 .1 .0 ∙ at-operand-value .operand-value .kept .1 .1 .1 .1 .0
 
 same-length-4 : tie.Need-same-length-4
 same-length-4 c =
     let at-look-up = c .before .before .before .before .before .before .before .before in
-    let at-operand-value2 = at-look-up .before .before .before .before .before .before .before .before .before .before .before .before .before .before .before .before .before .before .before .before .before in
+    let at-operand-value2 = at-look-up .before .before .before .before .before .before .before .before .before .before .before .before .before .before .before
+    .before .before .before .before .before .before in
     let at-operand-value = at-operand-value2 .before .before .before .before .before .before .before .before .before .before .before .before .before in
     at-look-up .look-up .kept .1 .1 .1 .1 .0 ∙ at-operand-value2 .operand-value2 .kept .1 .1 .1 .1 .1 .0 ∙ at-operand-value .operand-value .kept .1 .1 .1 .1 .1 .0
 

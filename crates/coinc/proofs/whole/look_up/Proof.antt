@@ -8,7 +8,8 @@ use Rattle.coinc.proofs.whole.look_up.Tie as tie
 
 same-length : tie.Need-same-length
 same-length c =
-    let at-in-table = c .before .before .before .before .before .before .before .before .before .before .before .before .before .before .before .before .before .before .before .before .before .before in
+    let at-in-table = c .before .before .before .before .before .before .before .before .before .before .before .before .before .before .before .before .before
+    .before .before .before .before .before in
     at-in-table .in-table .kept .1 .0
 
 same-length-2 : tie.Need-same-length-2
@@ -43,7 +44,8 @@ returns c =
     let at-in-table = at-set-condition .before .before .before .before .before .before in
     let at-push-pc = at-in-table .before .before .before .before .before .before .before .before in
     λ _.
-    seq (at-push-pc .push-pc .ensures _) (bind _ (at-in-table .in-table .ensures _) (seq (at-set-condition .set-condition .ensures _) (c .before .before .before .before .before .before .pop-pc .ensures _)))
+    seq (at-push-pc .push-pc .ensures _) (bind _ (at-in-table .in-table .ensures _) (seq (at-set-condition .set-condition .ensures _) (c .before .before
+    .before .before .before .before .pop-pc .ensures _)))
 
 pub look-up-spec : {M : Type 1} → statement M
 look-up-spec =

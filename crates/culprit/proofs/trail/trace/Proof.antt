@@ -33,7 +33,8 @@ loop-holds c = (λ k e. refl, refl, omega arith, omega arith)
 returns-2 : tie.Need-returns-2 Inv-loop μ-loop
 returns-2 c =
     let start = c .before .before .before .before .before .before .before .before .before .before in
-    rw (c .refused2 .ensures) (told-unsound _ _ _ _ _ _ _ _ _ (c .before .before .before .before .loop-test .taken) (as-long _ _ _ (start .pre)) (c .before .before .before .word-at .ensures) (c .before .before .sound .ensures)
+    rw (c .refused2 .ensures) (told-unsound _ _ _ _ _ _ _ _ _ (c .before .before .before .before .loop-test .taken) (as-long _ _ _ (start .pre)) (c .before
+    .before .before .word-at .ensures) (c .before .before .sound .ensures)
     (denied _ (c .before .if2 .taken)))
 
 loop-again : tie.Need-loop-again Inv-loop μ-loop

@@ -14,7 +14,8 @@ set-condition-requires c κs =
 
 same-length : tie.Need-same-length
 same-length c =
-    let at-next-word = c .before .before .before .before .before .before .before .before .before .before .before .before .before .before .before .before .before .before .before .before .before .before .before in
+    let at-next-word = c .before .before .before .before .before .before .before .before .before .before .before .before .before .before .before .before
+    .before .before .before .before .before .before .before in
     at-next-word .next-word .kept .1 .0
 
 returns : tie.Need-returns

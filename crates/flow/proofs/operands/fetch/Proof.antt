@@ -11,8 +11,11 @@ use Rattle.flow.proofs.operands.fetch.Tie as tie
 
 same-length : tie.Need-same-length
 same-length c =
-    let at-grom-byte = c .before .before .before .before .before .before .before .before .before .before .before .before .before .before .before .before .before .before .before .before .before .before .before .before .before .before .before in
-    let at-read-target = at-grom-byte .before .before .before .before .before .before .before .before .before .before .before .before .before .before .before .before .before .before .before .before .before .before .before .before .before .before .before .before .before .before .before .before .before .before .before .before in
+    let at-grom-byte = c .before .before .before .before .before .before .before .before .before .before .before .before .before .before .before .before
+    .before .before .before .before .before .before .before .before .before .before .before in
+    let at-read-target = at-grom-byte .before .before .before .before .before .before .before .before .before .before .before .before .before .before .before
+    .before .before .before .before .before .before .before .before .before .before .before .before .before .before .before .before .before .before .before
+    .before .before in
     at-grom-byte .grom-byte .kept .1 .0 ∙ at-read-target .read-target .kept .1 .0
 
 peek-pad-requires : tie.Need-peek-pad-requires

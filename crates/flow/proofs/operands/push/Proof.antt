@@ -12,7 +12,8 @@ use Rattle.flow.proofs.operands.push.Tie as tie
 
 same-length : tie.Need-same-length
 same-length c =
-    let at-operand-value = c .before .before .before .before .before .before .before .before .before .before .before .before .before .before .before .before .before .before .before .before .before .before .before .before .before .before .before .before .before .before .before .before .before .before in
+    let at-operand-value = c .before .before .before .before .before .before .before .before .before .before .before .before .before .before .before .before
+    .before .before .before .before .before .before .before .before .before .before .before .before .before .before .before .before .before .before in
     at-operand-value .operand-value .kept .1 .0
 
 poke-pad-requires : tie.Need-poke-pad-requires

@@ -16,7 +16,8 @@ poke-pad-requires c κs =
 
 same-length : tie.Need-same-length
 same-length c =
-    let at-next-word = c .before .before .before .before .before .before .before .before .before .before .before .before .before .before .before .before .before .before .before .before .before .before .before .before .before .before .before .before in
+    let at-next-word = c .before .before .before .before .before .before .before .before .before .before .before .before .before .before .before .before
+    .before .before .before .before .before .before .before .before .before .before .before .before in
     at-next-word .next-word .kept .1 .0
 
 block-turn-requires : tie.Need-block-turn-requires

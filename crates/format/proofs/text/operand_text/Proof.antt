@@ -8,7 +8,8 @@ use Rattle.format.proofs.text.operand_text.Tie as tie
 
 same-length : tie.Need-same-length
 same-length c =
-    let at-cpu-operand = c .before .before .before .before .before .before .before .before .before .before .before .before .before .before .before .before .before .before .before .before .before .before in
+    let at-cpu-operand = c .before .before .before .before .before .before .before .before .before .before .before .before .before .before .before .before
+    .before .before .before .before .before .before in
     at-cpu-operand .cpu-operand .kept .1 .0
 
 same-length-2 : tie.Need-same-length-2

@@ -12,12 +12,14 @@ use Rattle.sound.proofs.block.block.Tie as tie
 
 returns : tie.Need-returns
 unfolding block
-returns c = λ _. by-rule (picked _ _ _ (eq-eqb _ _ (c .before .before .before .before .if1 .taken))) (rw (c .before .before .leap .ensures .0) (quietly (quiet-leap _ _ _) (c .before .before .leap .ensures .1 _)))
+returns c = λ _. by-rule (picked _ _ _ (eq-eqb _ _ (c .before .before .before .before .if1 .taken))) (rw (c .before .before .leap .ensures .0) (quietly
+    (quiet-leap _ _ _) (c .before .before .leap .ensures .1 _)))
 
 returns-2 : tie.Need-returns-2
 returns-2 c =
     let at-if1 = c .before .before .before .before .before in
-    λ _. by-rule (turned _ _ _ _ (at-if1 .if1 .left) (c .before .before .before .before .if2 .taken)) (rw (c .before .before .leap2 .ensures .0) (quietly (quiet-leap _ _ _) (c .before .before .leap2 .ensures .1 _)))
+    λ _. by-rule (turned _ _ _ _ (at-if1 .if1 .left) (c .before .before .before .before .if2 .taken)) (rw (c .before .before .leap2 .ensures .0) (quietly
+    (quiet-leap _ _ _) (c .before .before .leap2 .ensures .1 _)))
 
 returns-3 : tie.Need-returns-3
 unfolding block

@@ -14,7 +14,8 @@ use Rattle.sound.proofs.start.start.Tie as tie
 
 same-length : tie.Need-same-length
 same-length c =
-    let at-source = c .before .before .before .before .before .before .before .before .before .before .before .before .before .before .before .before .before .before .before .before .before .before .before .before .before .before .before .before .before .before .before .before .before .before in
+    let at-source = c .before .before .before .before .before .before .before .before .before .before .before .before .before .before .before .before .before
+    .before .before .before .before .before .before .before .before .before .before .before .before .before .before .before .before .before in
     let at-read-target = at-source .before .before .before .before .before .before .before .before .before .before .before .before .before .before in
     at-source .source .kept .1 .0 ∙ at-read-target .read-target .kept .1 .0
 

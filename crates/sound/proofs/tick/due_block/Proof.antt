@@ -10,13 +10,15 @@ use Rattle.sound.proofs.tick.due_block.Tie as tie
 
 same-length : tie.Need-same-length
 same-length c =
-    let at-block = c .before .before .before .before .before .before .before .before .before .before .before .before .before .before .before .before .before .before .before .before .before .before .before .before .before .before .before .before .before .before .before .before .before .before in
+    let at-block = c .before .before .before .before .before .before .before .before .before .before .before .before .before .before .before .before .before
+    .before .before .before .before .before .before .before .before .before .before .before .before .before .before .before .before .before in
     let at-list-byte = at-block .before .before .before .before .before in
     at-block .block .kept .1 .0 ∙ at-list-byte .list-byte .kept .1 .0
 
 block-requires : tie.Need-block-requires
 block-requires c κs =
-    let start = c .before .before .before .before .before .before .before .before .before .before .before .before .before .before .before .before .before .before .before .before .before .before .before .before .before in
+    let start = c .before .before .before .before .before .before .before .before .before .before .before .before .before .before .before .before .before
+    .before .before .before .before .before .before .before .before in
     start .pre .1
 
 poke-pad-word-requires : tie.Need-poke-pad-word-requires
@@ -28,7 +30,8 @@ poke-pad-word-requires c κs =
 poke-pad-requires : tie.Need-poke-pad-requires
 poke-pad-requires c κs =
     let at-poke-pad-word = c .before .before .before .before .before .before .before .before .before in
-    let at-opened = at-poke-pad-word .before .before .before .before .before .before .before .before .before .before .before .before .before .before .before .before .before .before .before .before .before in
+    let at-opened = at-poke-pad-word .before .before .before .before .before .before .before .before .before .before .before .before .before .before .before
+    .before .before .before .before .before .before in
     let start = at-opened .before .before .before .before .before .before .before .before .before .before .before .before .before in
     at-poke-pad-word .poke-pad-word .kept .0 ∙ at-opened .opened .kept .0 ∙ start .pre .0
 
@@ -36,7 +39,8 @@ closed-requires : tie.Need-closed-requires
 closed-requires c κs =
     let at-poke-pad = c .before .before .before .before .before .before .before .before .before in
     let at-poke-pad-word = at-poke-pad .before .before .before .before .before .before .before .before .before .before in
-    let at-opened = at-poke-pad-word .before .before .before .before .before .before .before .before .before .before .before .before .before .before .before .before .before .before .before .before .before in
+    let at-opened = at-poke-pad-word .before .before .before .before .before .before .before .before .before .before .before .before .before .before .before
+    .before .before .before .before .before .before in
     let start = at-opened .before .before .before .before .before .before .before .before .before .before .before .before .before in
     at-poke-pad .poke-pad .kept .0 ∙ at-poke-pad-word .poke-pad-word .kept .0 ∙ at-opened .opened .kept .0 ∙ start .pre .0
 
@@ -44,26 +48,30 @@ same-length-2 : tie.Need-same-length-2
 same-length-2 c =
     let at-poke-pad = c .before .before .before .before .before .before .before .before .before .before .before .before .before .before .before .before in
     let at-poke-pad-word = at-poke-pad .before .before .before .before .before .before .before .before .before .before in
-    let at-opened = at-poke-pad-word .before .before .before .before .before .before .before .before .before .before .before .before .before .before .before .before .before .before .before .before .before in
+    let at-opened = at-poke-pad-word .before .before .before .before .before .before .before .before .before .before .before .before .before .before .before
+    .before .before .before .before .before .before in
     c .before .before .before .before .before .before .closed .kept .0 ∙ at-poke-pad .poke-pad .kept .0 ∙ at-poke-pad-word .poke-pad-word .kept .0 ∙ at-opened .opened .kept .0
 
 same-length-3 : tie.Need-same-length-3
 same-length-3 c =
     let at-poke-pad = c .before .before .before .before .before .before .before .before .before .before .before .before .before .before .before .before in
     let at-poke-pad-word = at-poke-pad .before .before .before .before .before .before .before .before .before .before in
-    let at-opened = at-poke-pad-word .before .before .before .before .before .before .before .before .before .before .before .before .before .before .before .before .before .before .before .before .before in
+    let at-opened = at-poke-pad-word .before .before .before .before .before .before .before .before .before .before .before .before .before .before .before
+    .before .before .before .before .before .before in
     c .before .before .before .before .before .before .closed .kept .1 .0 ∙ at-poke-pad .poke-pad .kept .1 .0 ∙ at-poke-pad-word .poke-pad-word .kept .1 .0 ∙ at-opened .opened .kept .1 .0
 
 same-length-4 : tie.Need-same-length-4
 same-length-4 c =
     let at-poke-pad = c .before .before .before .before .before .before .before .before .before .before .before .before .before .before .before .before in
     let at-poke-pad-word = at-poke-pad .before .before .before .before .before .before .before .before .before .before in
-    let at-opened = at-poke-pad-word .before .before .before .before .before .before .before .before .before .before .before .before .before .before .before .before .before .before .before .before .before in
+    let at-opened = at-poke-pad-word .before .before .before .before .before .before .before .before .before .before .before .before .before .before .before
+    .before .before .before .before .before .before in
     c .before .before .before .before .before .before .closed .kept .1 .1 .0 ∙ at-poke-pad .poke-pad .kept .1 .1 .0 ∙ at-poke-pad-word .poke-pad-word .kept .1 .1 .0 ∙ at-opened .opened .kept .1 .1 .0
 
 same-length-5 : tie.Need-same-length-5
 same-length-5 c =
-    let at-block = c .before .before .before .before .before .before .before .before .before .before .before .before .before .before .before .before .before .before .before .before .before .before .before .before .before .before .before .before .before .before .before .before .before .before in
+    let at-block = c .before .before .before .before .before .before .before .before .before .before .before .before .before .before .before .before .before
+    .before .before .before .before .before .before .before .before .before .before .before .before .before .before .before .before .before in
     at-block .block .kept .1 .1 .1 .0
 
 returns : tie.Need-returns
