@@ -14,13 +14,13 @@ use Rattle.rules.specs.Rules.{Out, got, stopped, then, sends}
 use Rattle.rules.specs.Sound.{Source, tickRule}
 use Rattle.rules.specs.Calls.{tick, fits, Reply, done, refused, takeMark, attempt, settle, fitStep, step, stepStores, tickSent, tickOutput}
 use Rattle.machine.specs.declared.state.Now.{Now}
-use Rattle.machine.specs.Meaning.{outs, Stand, standing, outOf, began}
+use Rattle.machine.specs.Meaning.{Stand, standing, outOf, began}
 use Rattle.sound.specs.Meaning.{Lays}
 use Rattle.sound.proofs.Chain.{played}
 use Rattle.bench.specs.declared.at.At.{At}
 use Rattle.bench.specs.declared.walk.Reply as walk
 use Rattle.bench.specs.declared.ticks.Ticked.{Ticked}
-use Rattle.bench.specs.Meaning.{ringAt, stateAt, Returned, returned, Outcome, outcome, told, refusal, settled, beginning, settling, stepping}
+use Rattle.bench.specs.Meaning.{countAt, Lends, stateAt, Returned, returned, Outcome, outcome, told, refusal, settled, beginning, settling, stepping}
 use Rattle.bench.specs.Meaning.{Heard, replied, heard, heardAs, fitTicking, ticking, Tells}
 use Rattle.bench.proofs.Replies.{accepts, refuses, same-told}
 use Rattle.bench.proofs.Steps.{mark-of, step-unfit, step-fits}
@@ -42,12 +42,12 @@ abbrev Sent : List ℕ → ℕ → List ℕ → List ℕ → Type 0
 Sent bs l o p = (l ≡ length bs) × (l ≤ length o) × (p ≡ bs ++ drop (length bs) o)
 
 -- past the mark, the tick's rule sends what the rules say of the tick
-pub tick-sends : (i p v g j : List ℕ) (at : At) {n : Now} {t u : Stand} {f : Source} {l : ℕ} {o q d : List ℕ} → n ≡ began (at .pc) (at .used) → d ≡ ringAt at
+pub tick-sends : (i p v g j : List ℕ) (at : At) {n : Now} {t u : Stand} {f : Source} {l : ℕ} {o q d : List ℕ} → n ≡ began (at .pc) (countAt at) → at .used ≤ length j → Lends d j at
     → outOf t ≡ then (outOf (standing i [] (at .writable) p v g j d (at .used) (at .place) n)) (λ _ pc₂ m₂. takeMark (flagged (at .pc) (at .source)) pc₂ m₂)
     → Lays t (tickRule (length o) (at .source)) f u 0 l o q → Sent (tickSent (length o) (stateAt i p v g j at)) l o q
 unfolding tickSent
-tick-sends i p v g j at {l = l} {o = o} {q = q} b r e y =
-    subst (λ (bs : List ℕ). Sent bs l o q) (ap (λ (x : Out (Unit {0})). sends x (tickRule (length o) (at .source))) (e ∙ mark-of i p v g j at b r)) (played y)
+tick-sends i p v g j at {l = l} {o = o} {q = q} b z r e y =
+    subst (λ (bs : List ℕ). Sent bs l o q) (ap (λ (x : Out (Unit {0})). sends x (tickRule (length o) (at .source))) (e ∙ mark-of i p v g j at b z r)) (played y)
 
 -- ---- the output wiped
 

@@ -1,3 +1,4 @@
+pub mod Lending
 pub mod Links
 pub mod Replies
 pub mod Steps

@@ -28,57 +28,48 @@ use Rattle.rules.proofs.Replies.{tried-done}
 use Rattle.rules.proofs.Opcodes.{never-done}
 use Rattle.machine.specs.declared.state.Now.{Now}
 use Rattle.ring.specs.declared.book.Book.{Book}
-use Rattle.ring.specs.Meaning.{rings, olderOf, placeOf, bookOf}
+use Rattle.ring.specs.Meaning.{alone, booked}
 use Rattle.ring.proofs.Turned.{length-turned, as-long}
 use Rattle.machine.specs.Meaning.{outs, Stand, stand, standing, outOf, Goes, began}
 use Rattle.machine.specs.Meaning as meaning
+use Rattle.bench.proofs.Lending.{ring-at, long-seen, words-fit}
 use Rattle.machine.proofs.Chain as chain
 use Rattle.bench.specs.declared.at.At.{At}
 use Rattle.bench.specs.declared.walk.Reply as walk
-use Rattle.bench.specs.Meaning.{bookAt, ringAt, rests, stateAt, Returned, returned, outcome, replies, told, refusal, settled, beginning, marking, beginningReads, settling, stepping, Tells, Tries, Before, Begun}
+use Rattle.bench.specs.Meaning.{bookAt, countAt, Lends, seenAt, rests, stateAt, Returned, returned, outcome, replies, told}
+use Rattle.bench.specs.Meaning.{refusal, settled, beginning, marking, beginningReads, settling, stepping, Tells, Tries, Before, Begun}
 
 pub marked-append : (k l z : List ℕ) → marked (k ++ l) z ≡ marked l (marked k z)
 unfolding marked
 marked-append [] l z = refl
 marked-append (a ∷ k) l z = marked-append k l (set z a 1)
 
--- ---- the ring that is lent
-
--- beside it the book is the one of a machine at rest
-ring-at : (at : At) → bookOf (ringAt at) (at .used) (at .place) (at .used) ≡ bookAt at
-unfolding rings olderOf placeOf
-ring-at at = go (at .ring) (at .used) (at .place)
-  where
-    go : (b : Bool) (u a : ℕ) → bookOf (pick b (u ∷ a ∷ []) []) u a u ≡ record { used = u; older = u; place = a; ring = b }
-    go true u a = refl
-    go false u a = refl
-
 -- ---- an attempt
 
 -- where pc is pc₁, the mark of a machine at `at` is the rules'
-pub mark-of : (i p v g j : List ℕ) (at : At) {d : List ℕ} {pc₁ : ℕ} {n : Now} → n ≡ began pc₁ (at .used) → d ≡ ringAt at
+pub mark-of : (i p v g j : List ℕ) (at : At) {d : List ℕ} {pc₁ : ℕ} {n : Now} → n ≡ began pc₁ (countAt at) → at .used ≤ length j → Lends d j at
     → then (outOf (standing i [] (at .writable) p v g j d (at .used) (at .place) n)) (λ _ pc₂ m₂. takeMark (flagged (at .pc) (at .source)) pc₂ m₂)
     ≡ takeMark (flagged (at .pc) (at .source)) pc₁ (stateAt i p v g j at .mem)
 unfolding outs
-mark-of i p v g j at {pc₁ = pc₁} b q =
-    rw (b, q) (ap (λ (x : Book). takeMark (flagged (at .pc) (at .source)) pc₁ (meaning.memOf i (at .writable) p v g j x)) (ring-at at))
+mark-of i p v g j at {pc₁ = pc₁} b u l =
+    rw b (ap (λ (x : Mem). takeMark (flagged (at .pc) (at .source)) pc₁ (meaning.memSeen i (at .writable) p v g x)) (ring-at u l))
 
 -- and with a rule it is their attempt
-pub tries : {i p v g : List ℕ} (j : List ℕ) {d : List ℕ} {r : Rule Source} {f : Source} {at : At} {pc₁ : ℕ} {n : Now} {s e : Stand} → n ≡ began pc₁ (at .used)
-    → d ≡ ringAt at
+pub tries : {i p v g : List ℕ} (j : List ℕ) {d : List ℕ} {r : Rule Source} {f : Source} {at : At} {pc₁ : ℕ} {n : Now} {s e : Stand} → n ≡ began pc₁ (countAt at)
+    → at .used ≤ length j → Lends d j at
     → outOf s ≡ then (outOf (standing i [] (at .writable) p v g j d (at .used) (at .place) n)) (λ _ pc₂ m₂. takeMark (flagged (at .pc) (at .source)) pc₂ m₂)
-    → Goes s r f e → Tries r f pc₁ (stateAt i p v g j at) (stand (e .answer) (e .pc) (e .mem) [])
+    → Goes s r f e → Tries r f pc₁ (stateAt i p v g j at) (stand (e .answer) (e .pc) (e .mem) [] (e .ring))
 unfolding begin
-tries {i} {p} {v} {g} j {r = r} {at = at} b q k h = record { is = h .is ∙ ap (λ (x : Out (Unit {0})). after x r) (k ∙ mark-of i p v g j at b q) }
+tries {i} {p} {v} {g} j {r = r} {at = at} b u l k h = record { is = h .is ∙ ap (λ (x : Out (Unit {0})). after x r) (k ∙ mark-of i p v g j at b u l) }
 
 -- and what they read is marked
-pub tries-marks : (i p v g j : List ℕ) (at : At) {d : List ℕ} {r : Rule Source} {f : Source} {pc₁ : ℕ} {n : Now} {s e : Stand} → n ≡ began pc₁ (at .used)
-    → d ≡ ringAt at
+pub tries-marks : (i p v g j : List ℕ) (at : At) {d : List ℕ} {r : Rule Source} {f : Source} {pc₁ : ℕ} {n : Now} {s e : Stand} → n ≡ began pc₁ (countAt at)
+    → at .used ≤ length j → Lends d j at
     → outOf s ≡ then (outOf (standing i [] (at .writable) p v g j d (at .used) (at .place) n)) (λ _ pc₂ m₂. takeMark (flagged (at .pc) (at .source)) pc₂ m₂)
     → Goes s r f e → e .map ≡ marking (beginningReads r pc₁) (s .map) (stateAt i p v g j at)
 unfolding beginReads readsAfter
-tries-marks i p v g j at {r = r} {pc₁ = pc₁} {s = s} b q k h =
-    let taken : outOf s ≡ takeMark (flagged (at .pc) (at .source)) pc₁ (atRest (stateAt i p v g j at .mem)) = k ∙ mark-of i p v g j at b q in
+tries-marks i p v g j at {r = r} {pc₁ = pc₁} {s = s} b u l k h =
+    let taken : outOf s ≡ takeMark (flagged (at .pc) (at .source)) pc₁ (atRest (stateAt i p v g j at .mem)) = k ∙ mark-of i p v g j at b u l in
     h .marks ∙ ap (λ (x : Out (Unit {0})). marked (readsAfter x r) (s .map)) taken
 
 -- a rule that leaves the flag as it is
@@ -102,7 +93,7 @@ module _ {pc : ℕ} {m : Mem} where
   tried-fits early l = l
   tried-fits (late h) l = used-fits (h .makes) (rw (length-set (forget (h .dropped) m .journal) (forget (h .dropped) m .used) (markWord pc)) (h .word-left))
 
-module _ {r : Rule Source} {f : Source} {a : Answer} {pc₁ pc₂ : ℕ} {s : State} {m : Mem} (g : Tries r f pc₁ s (stand a pc₂ m []))
+module _ {r : Rule Source} {f : Source} {a : Answer} {pc₁ pc₂ : ℕ} {s : State} {m : Mem} {ρ : List ℕ} (g : Tries r f pc₁ s (stand a pc₂ m [] ρ))
     (u : s .mem .used ≤ length (s .mem .journal)) where
   abbrev stored : List Store
   stored = beginStores (address s) (go r) pc₁ (atRest (s .mem))
@@ -130,22 +121,28 @@ module _ {r : Rule Source} {f : Source} {a : Answer} {pc₁ pc₂ : ℕ} {s : St
 
 -- so it has begun
 pub begun : {w : ℕ} {i p v g : List ℕ} {j d : RefT (List ℕ)} {at : At} {n : Now} {r : Rule Source} {f : Source} {pc₁ : ℕ} {s : State}
-    → Tries r f pc₁ s (standing i [] w p v g (now j) (now d) (at .used) (at .place) n) → s .mem .used ≤ length (s .mem .journal) → Begun j d at n
-begun {j = j} {d = d} {at = at} {n = n} h u =
+    → Tries r f pc₁ s (standing i [] w p v g (now j) (now d) (at .used) (at .place) n) → s .mem .used ≤ length (s .mem .journal) → at .used ≤ length (now j)
+    → Lends (now d) (now j) at → Begun j d at n
+begun {j = j} {d = d} {at = at} {n = n} h u o l =
+    let fits : seenAt (now j) (now d) at n .used ≤ length (now j) = rw (long-seen (now j) (now d) (at .used) (at .place) (n .used)) at (used-stays h u) in
     record {
+      lends = l;
+      before = o;
+      words = words-fit (now j) (now d) (at .used) (at .place) (n .used) fits;
+      used = fits;
       own = own-above h u;
-      used = rw (length-turned (rings (now d)) (placeOf (now d) (at .place)) (now j)) at (used-stays h u);
       marked = λ z. omega (arith, counted h u z);
     }
 
--- by an equal book
-pub by-book : {w : ℕ} {i p v g : List ℕ} (j : List ℕ) {r : Rule Source} {f : Source} {a : Answer} {pc₁ pc : ℕ} {b c : Book} {s : State} → c ≡ b
-    → Tries r f pc₁ s (stand a pc (meaning.memOf i w p v g j b) []) → Tries r f pc₁ s (stand a pc (meaning.memOf i w p v g j c) [])
-by-book {w} {i} {p} {v} {g} j {r} {f} {a} {pc₁} {pc} {s = s} e h =
-    subst (λ (x : Book). Tries r f pc₁ s (stand a pc (meaning.memOf i w p v g j x) [])) (sym e) h
+-- by its book at the end
+pub by-book : {w : ℕ} {i p v g : List ℕ} (j : List ℕ) {r : Rule Source} {f : Source} {a : Answer} {pc₁ pc : ℕ} {c : Book} {m : Mem} {s : State} {ρ : List ℕ}
+    → booked j c (alone [] 0 0 0 false) ≡ m
+    → Tries r f pc₁ s (stand a pc (meaning.memSeen i w p v g m) [] ρ) → Tries r f pc₁ s (stand a pc (meaning.memOf i w p v g j c) [] ρ)
+by-book {w} {i} {p} {v} {g} j {r} {f} {a} {pc₁} {pc} {s = s} {ρ = ρ} e h =
+    subst (λ (x : Mem). Tries r f pc₁ s (stand a pc (meaning.memSeen i w p v g x) [] ρ)) (sym e) h
 
-pub settle-done : {w : ℕ} {i p v g j : List ℕ} {r : Rule Source} {f : Source} {at : At} {a : Answer} {pc₁ pc n : ℕ} {b : Book} {s : State} → Before at s
-    → Tries r f pc₁ s (stand a pc (meaning.memOf i w p v g j b) []) → a .number ≡ 0 → n ≡ b .used - b .older - 1
+pub settle-done : {w : ℕ} {i p v g j : List ℕ} {r : Rule Source} {f : Source} {at : At} {a : Answer} {pc₁ pc n : ℕ} {b : Book} {s : State} {ρ : List ℕ} → Before at s
+    → Tries r f pc₁ s (stand a pc (meaning.memOf i w p v g j b) [] ρ) → a .number ≡ 0 → n ≡ b .used - b .older - 1
     → Tells told (beginning r pc₁) s (returned i p v g j (record { answer = 0; address = 0; stores = n; at = rests pc b w f }))
 unfolding outs valued replies
 settle-done {w} {i} {p} {v} {g} {j} {r} {f} {pc₁ = pc₁} {pc = pc} {n = n} {b = b} {s = s} k h z q =
@@ -153,8 +150,8 @@ settle-done {w} {i} {p} {v} {g} {j} {r} {f} {pc₁ = pc₁} {pc = pc} {n = n} {b
     let count : n ≡ length ss = omega (arith, counted h (k .used) z) in
     record { is = ap (outcome (done (state pc f (atRest (meaning.memOf i w p v g j b))))) count ∙ ap (λ (o : Out Source). settled s o ss) (rw z at (h .is)) }
 
-pub settle-undone : {w : ℕ} {i p v g j : List ℕ} {r : Rule Source} {f : Source} {at : At} {a : Answer} {pc₁ pc₂ : ℕ} {s : State} {m : Mem} {c : Book} → Before at s
-    → Tries r f pc₁ s (stand a pc₂ m []) → (a .number ≡ 0 → ⊥) → meaning.memOf i w p v g j c ≡ undo (m .used - m .older) m
+pub settle-undone : {w : ℕ} {i p v g j : List ℕ} {r : Rule Source} {f : Source} {at : At} {a : Answer} {pc₁ pc₂ : ℕ} {s : State} {m : Mem} {c : Book} {ρ : List ℕ} → Before at s
+    → Tries r f pc₁ s (stand a pc₂ m [] ρ) → (a .number ≡ 0 → ⊥) → meaning.memOf i w p v g j c ≡ undo (m .used - m .older) m
     → Tells told (beginning r pc₁) s (returned i p v g j (refusal a (rests (at .pc) c w (at .source))))
 unfolding outs valued replies
 settle-undone {w} {i} {p} {v} {g} {j} {r} {at = at} {a = a} {pc₁ = pc₁} {s = s} {m = m} {c = c} k h f q =
@@ -195,11 +192,12 @@ lent-so {i} {p} {v} {g} j {at} u l w bi bp bv bg =
 -- ---- the opcode read
 
 -- of a machine that has begun, by where it has
-pub from : {A : Type 0} {w : ℕ} {i z p v g : List ℕ} (j : List ℕ) (at : At) {n : Now} {pc : ℕ} {r : Rule A} {a : A} {t : Stand} → n ≡ began pc (at .used)
-    → Goes (standing i z w p v g j (ringAt at) (at .used) (at .place) n) r a t → Goes (stand well pc (meaning.memOf i w p v g j (bookAt at)) z) r a t
-from {w = w} {i = i} {z = z} {p = p} {v = v} {g = g} j at {pc = pc} {r = r} {a = a} {t = t} e h =
-    subst (λ (x : Book). Goes (stand well pc (meaning.memOf i w p v g j x) z) r a t) (ring-at at)
-    (subst (λ (x : Now). Goes (standing i z w p v g j (ringAt at) (at .used) (at .place) x) r a t) e h)
+pub from : {A : Type 0} {w : ℕ} {i z p v g d : List ℕ} (j : List ℕ) (at : At) {n : Now} {pc : ℕ} {r : Rule A} {a : A} {t : Stand} → n ≡ began pc (countAt at)
+    → at .used ≤ length j → Lends d j at
+    → Goes (standing i z w p v g j d (at .used) (at .place) n) r a t → Goes (stand well pc (meaning.memOf i w p v g j (bookAt at)) z d) r a t
+from {w = w} {i = i} {z = z} {p = p} {v = v} {g = g} {d = d} j at {pc = pc} {r = r} {a = a} {t = t} e u l h =
+    subst (λ (x : Mem). Goes (stand well pc (meaning.memSeen i w p v g x) z d) r a t) (ring-at u l)
+    (subst (λ (x : Now). Goes (standing i z w p v g j d (at .used) (at .place) x) r a t) e h)
 
 then-got : {A : Type 0} (o : Out A) → then o (λ v pc m. got v pc m) ≡ o
 then-got (got v pc m) = refl
@@ -218,7 +216,7 @@ readsThen-none : {A : Type 0} (o : Out A) → readsThen o (λ _ pc m. []) ≡ []
 readsThen-none (got a pc m) = refl
 readsThen-none (stopped n m) = refl
 
-module _ {b pc₁ : ℕ} {a : Answer} (s : State) {m : Mem} {z y : List ℕ} (g : Goes (stand well (s .pc) (atRest (s .mem)) z) nextByte b (stand a pc₁ m y)) where
+module _ {b pc₁ : ℕ} {a : Answer} (s : State) {m : Mem} {z y ρ ρ₁ : List ℕ} (g : Goes (stand well (s .pc) (atRest (s .mem)) z ρ) nextByte b (stand a pc₁ m y ρ₁)) where
   next-is : perform next (s .pc) (atRest (s .mem)) ≡ valued b (outs a pc₁ m)
   unfolding after outs exec
   next-is = sym (g .is ∙ then-got (perform next (s .pc) (atRest (s .mem))))
@@ -310,8 +308,8 @@ untouched : {i p v g j : List ℕ} {at : At} {a : Answer} → (a .number ≡ 0 �
 unfolding replies
 untouched {at = at} {a = a} h e = record { is = rw (ne-eqb (a .number) 0 h, e, sub-self (at .used)) }
 
-module _ {i p v g j : List ℕ} {at : At} {b pc₁ : ℕ} {a : Answer} {m : Mem} {z y : List ℕ}
-    (h : Goes (stand well (at .pc) (stateAt i p v g j at .mem) z) nextByte b (stand a pc₁ m y)) where
+module _ {i p v g j : List ℕ} {at : At} {b pc₁ : ℕ} {a : Answer} {m : Mem} {z y ρ ρ₁ : List ℕ}
+    (h : Goes (stand well (at .pc) (stateAt i p v g j at .mem) z ρ) nextByte b (stand a pc₁ m y ρ₁)) where
   -- 6: no opcode
   pub step-beyond : (a .number ≡ 0 → ⊥) → Tells told (settling instruction) (stateAt i p v g j at) (returned i p v g j (refusal a at))
   step-beyond f = untouched f (attempt-missed (stateAt i p v g j at) h f)

@@ -1,12 +1,12 @@
 -- What the public calls take and hand back, in the words of the rules.
 use mathlib.Core.Path.{_≡_}
 use mathlib.Core.Bool.{true}
-use mathlib.Core.List.{List, [], _∷_}
-use Prim.Native.Nat.{ℕ, _-_, _≤_, _<_}
+use mathlib.Core.List.{List, []}
+use Prim.Native.Nat.{ℕ, _-_, _^_, _≤_, _<_}
 use lib.Dec.{eqb, leb}
 use lib.ListN.{length, take, drop}
 use denote.Ref.{RefT, now}
-use Rattle.rules.specs.Machine.{pick, State, state, address, atRest}
+use Rattle.rules.specs.Machine.{pick, Mem, State, state, address, atRest}
 use Rattle.rules.specs.Answers.{Answer, saying}
 use Rattle.rules.specs.Journal.{Store}
 use Rattle.rules.specs.Rules.{Rule, Out, got, stopped, valued}
@@ -17,9 +17,9 @@ use Rattle.rules.specs.Calls as calls
 use Rattle.rules.specs.Reads.{beginReads, attemptReads, marked, mappedRun, mapLeft}
 use Rattle.rules.specs.Demands.{Good}
 use Rattle.ring.specs.declared.book.Book.{Book}
-use Rattle.ring.specs.Meaning.{bookOf}
+use Rattle.ring.specs.Meaning.{seen, lentBy}
 use Rattle.machine.specs.declared.state.Now.{Now}
-use Rattle.machine.specs.Meaning.{IsPad, IsVram, IsRegs, Lent, Parts, Rest, after′, answerOf, memOf, memBefore, unmapped, Stand, stand, outOf}
+use Rattle.machine.specs.Meaning.{IsPad, IsVram, IsRegs, Lent, Parts, Rest, before, after′, answerOf, memOf, memBefore, seenBefore, unmapped, Stand, stand, outOf}
 use Rattle.bench.specs.declared.at.At.{At}
 use Rattle.bench.specs.declared.walk.Reply as walk
 use Rattle.bench.specs.declared.runs.Report as runs
@@ -33,9 +33,13 @@ use Rattle.bench.specs.declared.viewer.Memory.the-variants.{Cpu, Vdp}
 abbrev pub bookAt : At → Book
 bookAt at = record { used = at .used; older = at .used; place = at .place; ring = at .ring }
 
--- the ring that is lent beside the journal: the same two numbers, and none of a plain journal
-abbrev pub ringAt : At → List ℕ
-ringAt at = pick (at .ring) (at .used ∷ at .place ∷ []) []
+-- what a step that begins there counts of the journal's words: its own in a ring, all in a plain journal
+abbrev pub countAt : At → ℕ
+countAt at = pick (at .ring) 0 (at .used)
+
+-- the ring that is lent it beside a journal of n words
+abbrev pub ringAt : ℕ → At → List ℕ
+ringAt n at = lentBy n (bookAt at)
 
 -- where a machine rests
 abbrev pub rests : ℕ → Book → ℕ → Source → At
@@ -54,8 +58,10 @@ pub record Fit (p v g j : RefT (List ℕ)) (at : At) : Type 0 where
   pub regs : IsRegs g
   pub used : at .used ≤ length (now j)
 
-abbrev pub Lends : RefT (List ℕ) → At → Type 0
-Lends r at = now r ≡ ringAt at
+-- beside the journal its ring is lent; no slice of words is as long as this
+pub record Lends (r j : List ℕ) (at : At) : Type 0 where
+  pub ring : r ≡ ringAt (length j) at
+  pub long : length j < 2 ^ 61
 
 -- of all
 abbrev pub Fits : RefT (List ℕ) → RefT (List ℕ) → RefT (List ℕ) → RefT (List ℕ) → RefT (List ℕ) → At → Type 0
@@ -208,15 +214,18 @@ pub record Before (at : At) (s : State) : Type 0 where
   pub good : Good s
   pub used : s .mem .used ≤ length (s .mem .journal)
 
--- the journal's book where such an attempt has come to m
-abbrev pub bookNow : RefT (List ℕ) → At → Now → Book
-bookNow r at m = bookOf (now r) (at .used) (at .place) (m .used)
+-- the journal as the rules have it where such an attempt has come to m
+abbrev pub seenAt : List ℕ → List ℕ → At → Now → Mem
+seenAt j r at m = seen j r (at .used) (at .place) (m .used)
 
 -- what it leaves of a journal: its own words are above the older ones, all have room, and where it was not refused there is a mark
 pub record Begun (j r : RefT (List ℕ)) (at : At) (m : Now) : Type 0 where
-  pub own : bookNow r at m .older ≤ m .used
-  pub used : m .used ≤ length (now j)
-  pub marked : m .answer ≡ 0 → bookNow r at m .older < m .used
+  pub lends : Lends (now r) (now j) at
+  pub before : at .used ≤ length (now j)
+  pub words : m .used ≤ length (now j)
+  pub used : seenAt (now j) (now r) at m .used ≤ length (now j)
+  pub own : seenAt (now j) (now r) at m .older ≤ seenAt (now j) (now r) at m .used
+  pub marked : m .answer ≡ 0 → seenAt (now j) (now r) at m .older < seenAt (now j) (now r) at m .used
 
 -- the state that a function is lent, where q are the parts that it sees
 abbrev pub lentTo : (q : Parts) → Rest q → At → State
@@ -231,7 +240,9 @@ Returns say f q at r =
 abbrev pub Settles : (Parts → Parts) → Lent → At → Now → Source → walk.Reply → Type 0
 Settles parts ring at m f x =
     (rest : Rest (parts unmapped)) (r : Rule Source) (pc₁ : ℕ) (s : State) → Before at s
-    → Tries r f pc₁ s (stand (answerOf m) (m .pc) (memBefore (parts unmapped) rest (bookNow (ring .entry) at m)) [])
+    → Tries r f pc₁ s (stand (answerOf m) (m .pc)
+    (seenBefore (parts unmapped) rest (seenAt (before (parts unmapped .journal) (rest .journal)) (now (ring .entry)) at m)) []
+    (now (ring .entry)))
     → Tells told (beginning r pc₁) s (returnedBy (parts unmapped) rest x)
 
 abbrev pub Replies : (State → Outcome) → (Parts → Parts) → At → walk.Reply → Type 0

@@ -1,11 +1,12 @@
 // Where a machine stands beside its memories.
 use machine::state;
 use machine::state::Now;
+use ring::book;
 use ring::book::Book;
 ghost use mathlib.Core.Path.{_≡_};
+ghost use Prim.Native.Nat.{_+_, _%_, _^_, _≤_, _<_};
 ghost use Rattle.machine.specs.Meaning.{began};
-ghost use Rattle.ring.specs.Meaning.{bookOf};
-ghost use Rattle.bench.specs.Meaning.{bookAt, rests};
+ghost use Rattle.bench.specs.Meaning.{bookAt, countAt, rests};
 
 // The program address; the used words of the journal, whether it is a ring, and the place of its oldest kept word; the groups of the image that may
 // be written, bit g for group g; and whether a sound list is in VDP RAM, else it is in GROM. A call takes it and hands the next one back.
@@ -31,31 +32,22 @@ pub(crate) fn book(at: At) -> Book
     }
 }
 
-// A machine that has refused nothing, at an address.
+// A machine that has refused nothing, at an address. In a ring the words of its step are counted, in a plain journal all.
 pub(crate) fn begin(at: At, pc: u16) -> Now
-    ensures { λ r. ⌜ r ≡ began pc (at .used) ⌝ }
+    ensures { λ r. ⌜ r ≡ began pc (countAt at) ⌝ }
 {
+    if at.ring {
+        return state::begin(pc, 0);
+    }
     state::begin(pc, at.used)
 }
 
-// The journal's book in a step that began at `at`: by its ring, and of a plain journal as it was.
-pub(crate) fn book_by(ring: &[usize], at: At, used: usize) -> Book
-    ensures { λ r. ⌜ r ≡ bookOf (now (ring .entry)) (at .used) (at .place) used ⌝ }
+// The first free place of a ring of n words.
+pub(crate) fn free(n: usize, at: At) -> usize
+    requires { ⌜ (at .used ≤ n) × (n < 2 ^ 61) ⌝ }
+    ensures { λ r. ⌜ r ≡ (at .place + at .used) % n ⌝ }
 {
-    if ring.len() < 2 {
-        return Book {
-            used,
-            older: at.used,
-            place: at.place,
-            ring: false,
-        };
-    }
-    Book {
-        used,
-        older: ring[0],
-        place: ring[1],
-        ring: true,
-    }
+    book::further(n, at.place, at.used)
 }
 
 // Where a machine rests.

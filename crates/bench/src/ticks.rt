@@ -58,7 +58,7 @@ fn tick_by(
     at: At,
     output: &mut [u8],
 ) -> Ticked
-    requires { ⌜ Fit pad vram regs journal at × Lends ring at ⌝ }
+    requires { ⌜ Fit pad vram regs journal at × Lends (now ring) (now journal) at ⌝ }
     ensures { λ r. ⌜ Hears fitTicking (Image image & Groups (at .writable) & Pad pad & Vram vram & Regs regs & Journal journal) output at r ⌝ }
 {
     let marked = machine::journal::take_mark(journal, ring, at::begin(at, at.pc), at.pc, at.source);
@@ -95,7 +95,7 @@ fn fit_tick(
     ensures { λ r. ⌜ Hears fitTicking (Image image & Groups (at .writable) & Pad pad & Vram vram & Regs regs & Journal journal) output at r ⌝ }
 {
     if at.ring {
-        let mut ring: [usize; 2] = [at.used, at.place];
+        let mut ring: [usize; 2] = [at::free(journal.len(), at), at.used];
         return tick_by(image, pad, vram, regs, journal, &mut ring, at, output);
     }
     let mut none: [usize; 0] = [];

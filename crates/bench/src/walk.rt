@@ -7,6 +7,7 @@ use machine::answers::Why;
 use machine::state::Now;
 use opcode::class::Class;
 use opcode::class::Task;
+use ring::book;
 ghost use mathlib.Core.Path.{_≡_};
 ghost use Rattle.rules.specs.Answers.{saying, answerFor};
 ghost use Rattle.rules.specs.Calls.{instruction};
@@ -57,7 +58,7 @@ pub(crate) fn settle(
     requires { ⌜ Begun journal ring at m ⌝ }
     ensures { λ r. ⌜ Settles (Image image & Groups (at .writable) & Pad pad & Vram vram & Regs regs & Journal journal) ring at m source r ⌝ }
 {
-    let book = at::book_by(ring, at, m.used);
+    let book = book::close(journal, at::book(at), m.used);
     let taken = book.used - book.older;
     if m.answer == 0 {
         let stores = taken - 1;
@@ -89,7 +90,7 @@ fn do_task(
     next: u16,
     task: Task,
 ) -> Reply
-    requires { ⌜ Fit pad vram regs journal at × Lends ring at ⌝ }
+    requires { ⌜ Fit pad vram regs journal at × Lends (now ring) (now journal) at ⌝ }
     ensures { λ r. ⌜ Begins (doing (taskOf task) at) next (Image image & Groups (at .writable) & Pad pad & Vram vram & Regs regs & Journal journal) map at r ⌝ }
 {
     let marked = machine::journal::take_mark(journal, ring, at::begin(at, next), at.pc, at.source);
@@ -122,7 +123,7 @@ fn do_start(
     imm: bool,
     wide: bool,
 ) -> Reply
-    requires { ⌜ Fit pad vram regs journal at × Lends ring at ⌝ }
+    requires { ⌜ Fit pad vram regs journal at × Lends (now ring) (now journal) at ⌝ }
     ensures { λ r. ⌜ Begins (startRule imm wide) next (Image image & Groups (at .writable) & Pad pad & Vram vram & Regs regs & Journal journal) map at r ⌝ }
 {
     let marked = machine::journal::take_mark(journal, ring, at::begin(at, next), at.pc, at.source);
@@ -151,7 +152,7 @@ fn step_by(
     ring: &mut [usize],
     at: At,
 ) -> Reply
-    requires { ⌜ Fit pad vram regs journal at × Lends ring at ⌝ }
+    requires { ⌜ Fit pad vram regs journal at × Lends (now ring) (now journal) at ⌝ }
     ensures { λ r. ⌜ Attempts (Image image & Groups (at .writable) & Pad pad & Vram vram & Regs regs & Journal journal) map at r ⌝ }
 {
     let op = machine::grom::next_byte(image, map, at::begin(at, at.pc));
@@ -192,7 +193,7 @@ pub(crate) fn fit_step(
     ensures { λ r. ⌜ Attempts (Image image & Groups (at .writable) & Pad pad & Vram vram & Regs regs & Journal journal) map at r ⌝ }
 {
     if at.ring {
-        let mut ring: [usize; 2] = [at.used, at.place];
+        let mut ring: [usize; 2] = [at::free(journal.len(), at), at.used];
         return step_by(image, map, pad, vram, regs, journal, &mut ring, at);
     }
     let mut none: [usize; 0] = [];

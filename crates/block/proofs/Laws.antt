@@ -30,23 +30,17 @@ fills b = record { none = λ a. refl; more = λ n a. refl }
 pub near : (a k : ℕ) → a + k < 65536 → a + k ≡ (a + k) % 65536
 near a k h = omega arith
 
-none : (z : List ℕ) → length z ≡ 0 → z ≡ []
-none [] h = refl
-none (b ∷ z) h = absurd (omega arith)
-
 module _ {A : Type 0} {r : Rule A} {v : A} {b : Answer} {pc₁ : ℕ} {m₁ : Mem} where
-  -- a map of no bytes that is left is none
-  pub unmarked : {s : Stand} {z : List ℕ} → length z ≡ 0 → Goes s r v (stand b pc₁ m₁ z) → Goes s r v (stand b pc₁ m₁ [])
-  unmarked {z = z} h g = record { is = g .is; marks = sym (none z h) ∙ g .marks }
-
   -- what holds with none holds with a map of no bytes
-  pub mapless : {a : Answer} {pc : ℕ} {m : Mem} (z : List ℕ) → length z ≡ 0
-      → Goes (stand a pc m []) r v (stand b pc₁ m₁ []) → Goes (stand a pc m z) r v (stand b pc₁ m₁ z)
+  pub mapless : {a : Answer} {pc : ℕ} {m : Mem} {ρ ρ₁ : List ℕ} (z : List ℕ) → length z ≡ 0
+      → Goes (stand a pc m [] ρ) r v (stand b pc₁ m₁ [] ρ₁) → Goes (stand a pc m z ρ) r v (stand b pc₁ m₁ z ρ₁)
   mapless [] h g = g
   mapless (c ∷ z) h g = absurd (omega arith)
 
--- from GROM in a loop of its own: there is no map, and no address wraps
-pub countable-grom : {b : Bool} {f : Origin} {a : ℕ} (z r n : ℕ) → b ≡ straight z r f n → b ≡ true → f ≡ Grom a → (z ≡ 0) × (a + n ≤ 65536)
-countable-grom {a = a} z r n e h k =
+-- from GROM in a loop of its own: there is no map, and every address is in the image and none wraps
+pub countable-grom : {b : Bool} {f : Origin} {a : ℕ} (i z r n : ℕ) → b ≡ straight i z r f n → b ≡ true → f ≡ Grom a
+    → (z ≡ 0) × (a + n ≤ i) × (a + n ≤ 65536)
+countable-grom {a = a} i z r n e h k =
     let tests = both (both (sym (rw k at e) ∙ h) .1) in
-    (eqb-true z 0 (tests .0), leb-true (a + n) 65536 (tests .1))
+    let ends = both (tests .1) in
+    (eqb-true z 0 (tests .0), leb-true (a + n) i (ends .0), leb-true (a + n) 65536 (ends .1))

@@ -28,12 +28,13 @@ originOf (Vdp a) = cell vdp a
 abbrev pub NoMap : Parts → Parts
 NoMap = mapFrom [] []
 
--- whether n bytes from there to VDP RAM can go in a loop of their own, by the length of the map: from GROM with none, and with no address that wraps
-abbrev pub countable : ℕ → Origin → ℕ → Bool
-countable z (Grom a) n = eqb z 0 also leb (a + n) 65536
-countable z (Cpu a) n = true
-countable z (Vdp a) n = true
+-- whether n bytes from there to VDP RAM can go in a loop of their own, by the lengths of the image and of the map:
+-- from GROM with no map, and with no address beyond the image or that wraps
+abbrev pub countable : ℕ → ℕ → Origin → ℕ → Bool
+countable i z (Grom a) n = eqb z 0 also leb (a + n) i also leb (a + n) 65536
+countable i z (Cpu a) n = true
+countable i z (Vdp a) n = true
 
 -- whether they do, by the length of the ring too: a plain journal has none
-abbrev pub straight : ℕ → ℕ → Origin → ℕ → Bool
-straight z r f n = ltb r 2 also countable z f n
+abbrev pub straight : ℕ → ℕ → ℕ → Origin → ℕ → Bool
+straight i z r f n = ltb r 2 also countable i z f n

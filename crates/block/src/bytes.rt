@@ -4,6 +4,7 @@ use crate::ends::Target;
 use machine::cells;
 use machine::state::Now;
 ghost use Prim.Native.Nat.{_+_, _<_};
+ghost use lib.ListN.{length};
 ghost use Rattle.rules.specs.Machine.{cpu, grom, register, vdp};
 ghost use Rattle.rules.specs.Operands.{cell};
 ghost use Rattle.rules.specs.Instructions.{beyond, sourceByte, registerOne, moveByte};
@@ -147,7 +148,7 @@ pub fn move_byte(
     )
 }
 
-// From GROM to VDP RAM, at an address that does not wrap, with no map to mark.
+// From GROM to VDP RAM, at an address that is in the image and does not wrap, with no map to mark.
 pub fn grom_to_vdp(
     image: &[u8],
     vram: &mut [u8],
@@ -158,11 +159,14 @@ pub fn grom_to_vdp(
     t: u16,
     k: u16,
 ) -> Now
-    requires { ⌜ IsVram vram × (a + k < 65536) ⌝ }
+    requires { ⌜ IsVram vram × (a + k < length (now image)) × (a + k < 65536) ⌝ }
     ensures { λ r. ⌜ Does (moveByte (cell grom a) (cell vdp t) k) (Image image & NoMap & Vram vram & Journal journal & Ring ring) m r ⌝ }
 {
-    let from = a + k;
-    let b = machine::grom::grom_byte(image, &mut [], m, from);
+    if m.answer != 0 {
+        return m;
+    }
+    let from = a as usize + k as usize;
+    let b = machine::state::read(m, m.pc, image[from]);
     let at = t as usize + k as usize;
     machine::vdp::poke_vdp(vram, journal, ring, b, at, b.byte)
 }

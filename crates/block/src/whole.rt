@@ -27,7 +27,7 @@ fn move_count(l: u16) -> u16
     1
 }
 
-// From GROM to VDP RAM, in a loop of its own: no address wraps, and there is no map to mark.
+// From GROM to VDP RAM, in a loop of its own: every address is in the image and none wraps, and there is no map to mark.
 fn grom_bytes(
     image: &[u8],
     vram: &mut [u8],
@@ -38,7 +38,7 @@ fn grom_bytes(
     a: u16,
     t: u16,
 ) -> Now
-    requires { ⌜ IsVram vram × (a + n ≤ 65536) ⌝ }
+    requires { ⌜ IsVram vram × (a + n ≤ length (now image)) × (a + n ≤ 65536) ⌝ }
     ensures { λ r. ⌜ Does (moveBytes n 0 (cell grom a) (cell vdp t)) (Image image & NoMap & Vram vram & Journal journal & Ring ring) m r ⌝ }
 {
     let mut x = m;
@@ -145,9 +145,9 @@ fn any_bytes(
     x
 }
 
-// Whether what goes to VDP RAM has a loop of its own: not in a ring; and from GROM with no map, and with no address that wraps.
-fn straight(map: &[u8], ring: &[usize], from: Origin, n: u16) -> bool
-    ensures { λ r. ⌜ r ≡ Meaning.straight (length (now (map .entry))) (length (now (ring .entry))) from n ⌝ }
+// Whether what goes to VDP RAM has a loop of its own: not in a ring; and from GROM with no map, and with no address beyond the image or that wraps.
+fn straight(image: &[u8], map: &[u8], ring: &[usize], from: Origin, n: u16) -> bool
+    ensures { λ r. ⌜ r ≡ Meaning.straight (length (now (image .entry))) (length (now (map .entry))) (length (now (ring .entry))) from n ⌝ }
 {
     if 2 <= ring.len() {
         return false;
@@ -158,6 +158,9 @@ fn straight(map: &[u8], ring: &[usize], from: Origin, n: u16) -> bool
                 return false;
             }
             let end = a as usize + n as usize;
+            if image.len() < end {
+                return false;
+            }
             end <= 65536
         }
         Origin::Cpu(_) => true,
@@ -183,7 +186,7 @@ fn move_bytes(
     requires { ⌜ IsPad pad × IsVram vram × IsRegs regs ⌝ }
     ensures { λ r. ⌜ Does (moveBytes n 0 (originOf from) (targetOf to)) (Image image & Map map & Groups groups & Pad pad & Vram vram & Regs regs & Journal journal & Ring ring) m r ⌝ }
 {
-    if straight(map, ring, from, n) {
+    if straight(image, map, ring, from, n) {
         if let Target::Video(t) = to {
             match from {
                 Origin::Grom(a) => return grom_bytes(image, vram, journal, ring, m, n, a, t),

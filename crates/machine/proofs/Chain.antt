@@ -21,8 +21,8 @@ pub done : {s t : Stand} {r : Deed} → Goes s r tt t → outOf t ≡ after (out
 done {t = t} g = sym (valued-unit (outOf t)) ∙ g .is
 
 -- of one that does not look at the image: the map stays
-pub goes : {s t : Stand} {r : Deed} → Blind r → outOf t ≡ after (outOf s) r → t .map ≡ s .map → Goes s r tt t
-goes {s = s} {t = t} h e k = record { is = valued-unit (outOf t) ∙ e; marks = k ∙ blind-marks (outOf s) (s .map) h }
+pub goes : {s t : Stand} {r : Deed} → Blind r → outOf t ≡ after (outOf s) r → t .map ≡ s .map → t .ring ≡ s .ring → Goes s r tt t
+goes {s = s} {t = t} h e k l = record { is = valued-unit (outOf t) ∙ e; marks = k ∙ blind-marks (outOf s) (s .map) h; ring = l }
 
 module _ {s t u : Stand} where
   -- a call whose value is used
@@ -30,6 +30,7 @@ module _ {s t u : Stand} where
   bind {r = r} {a = a} {b = b} f g h = record {
     is = laws.bind (outOf s) a (outOf t) (valued b (outOf u)) r f (g .is) (h .is);
     marks = marks-bind (outOf s) a (outOf t) r f (s .map) (g .is) (g .marks) (h .marks);
+    ring = h .ring ∙ g .ring;
   }
 
   -- a call, then a call
@@ -38,7 +39,7 @@ module _ {s t u : Stand} where
 
 -- a value that is only made, and nothing at all
 pub gives : {A : Type 0} {s : Stand} {a b : A} → a ≡ b → Goes s (give b) a s
-gives {s = s} {a = a} {b = b} e = record { is = laws.gives (outOf s) a b e; marks = blind-marks (outOf s) (s .map) reading.gives }
+gives {s = s} {a = a} {b = b} e = record { is = laws.gives (outOf s) a b e; marks = blind-marks (outOf s) (s .map) reading.gives; ring = refl }
 
 module _ {s t : Stand} {A : Type 0} where
   -- the same rule in other words: of an equal value
@@ -61,6 +62,7 @@ pub hands : {A : Type 0} {s t u : Stand} {r : Rule A} {a b : A} → Goes s r a t
 hands {s = s} {t = t} {r = r} {a = a} g h = record {
   is = h .is ∙ sym (laws.gives (outOf t) a a refl) ∙ g .is;
   marks = h .marks ∙ sym (blind-marks (outOf t) (t .map) reading.gives) ∙ g .marks;
+  ring = h .ring ∙ g .ring;
 }
 
 -- given once more as an equal one
@@ -72,6 +74,7 @@ pub kept-byte : {s t : Stand} {k : Kind} {a b c : ℕ} → c ≡ b % 256 → Goe
 kept-byte {s = s} {k = k} {a = a} {b = b} {c = c} e g = record {
   is = g .is ∙ laws.kept-byte (outOf s) k a b c e;
   marks = g .marks ∙ sym (blind-marks (outOf s) (s .map) (blind-poke k a c)) ∙ blind-marks (outOf s) (s .map) (blind-poke k a b);
+  ring = g .ring;
 }
 
 -- a need, and the rest, which may have any number that is the rule's where the test holds
@@ -83,23 +86,24 @@ needed {c = c} {a = a} {b = b} why f g h k = by-rule (laws.needed c why f a b h)
 
 -- nothing done yet: the whole, in other words
 pub whole : {A : Type 0} {s : Stand} {r q : Rule A} → q ≡ r → Owes s r s q
-whole {s = s} e = record { is = ap (after (outOf s)) e; marks = ap (λ (x : Rule _). marked (readsAfter (outOf s) x) (s .map)) e }
+whole {s = s} e = record { is = ap (after (outOf s)) e; marks = ap (λ (x : Rule _). marked (readsAfter (outOf s) x) (s .map)) e; ring = refl }
 
 -- a call whose value is used: the rest, of that value
 pub leaves : {A B : Type 0} {s t : Stand} {r : Rule A} {a : A} (f : A → Rule B) → Goes s r a t → Owes s (r >>= f) t (f a)
 leaves {s = s} {t = t} {r = r} {a = a} f g = record {
   is = laws.bind (outOf s) a (outOf t) (after (outOf t) (f a)) r f (g .is) refl;
   marks = marks-bind (outOf s) a (outOf t) r f (s .map) (g .is) (g .marks) refl;
+  ring = g .ring;
 }
 
 module _ {A : Type 0} {s t : Stand} {r q : Rule A} where
   -- less of it
   pub further : {p : Rule A} {u : Stand} → Owes s r t q → Owes t q u p → Owes s r u p
-  further o l = record { is = l .is ∙ o .is; marks = l .marks ∙ o .marks }
+  further o l = record { is = l .is ∙ o .is; marks = l .marks ∙ o .marks; ring = l .ring ∙ o .ring }
 
   -- the last of it
   pub ends : {a : A} {u : Stand} → Owes s r t q → Goes t q a u → Goes s r a u
-  ends o g = record { is = g .is ∙ o .is; marks = g .marks ∙ o .marks }
+  ends o g = record { is = g .is ∙ o .is; marks = g .marks ∙ o .marks; ring = g .ring ∙ o .ring }
 
 module _ {A B : Type 0} {s t u : Stand} {r q : Rule A} {p : Rule B} {b : B} where
   -- a turn of a loop, of whose value the rest is

@@ -9,7 +9,7 @@ use native.Mathlib.Omega.{arith}
 use lib.Dec.{ltb, leb}
 use lib.ListN.{length, getD, set}
 use borrow.Author.Tests.{ne-eqb, lt-ltb, le-ltb, ltb-true, leb-true, leb-false}
-use Rattle.rules.specs.Machine.{_also_, flagged, Kind, grom, Area, extent, writable, Mem, mem, put, beside}
+use Rattle.rules.specs.Machine.{_also_, flagged, Kind, Area, extent, writable, Mem, put, beside}
 use Rattle.rules.specs.Journal.{kindNumber, markWord, lay, Note, mark, stoodIn, noteOf, note, sound, restore, zeroTop, undoTop, undo}
 use Rattle.rules.specs.Answers.{Answer, saying, answerFor, noRoom}
 use Rattle.rules.specs.Rules.{then, room, spare}

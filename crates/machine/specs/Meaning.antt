@@ -15,10 +15,11 @@ use Rattle.rules.specs.Answers.{Answer, saying}
 use Rattle.rules.specs.Calls as calls
 use Rattle.rules.specs.Journal.{turned}
 use Rattle.ring.specs.declared.book.Book.{Book}
-use Rattle.ring.specs.Meaning.{bookOf}
+use Rattle.ring.specs.Meaning.{seen}
 use Rattle.machine.specs.declared.state.Now.{Now}
 use Rattle.machine.specs.declared.answers.Why.{Why}
-use Rattle.machine.specs.declared.answers.Why.the-variants.{Ended, NoSuch, NeedsHost, OffCpu, OffVdp, OffGrom, OffStack, TooLong, NoRoom, WrongLength, NoRecord, OffRegister, TooCoarse, ReadOnly, OutputFull}
+use Rattle.machine.specs.declared.answers.Why.the-variants.{Ended, NoSuch, NeedsHost, OffCpu, OffVdp, OffGrom, OffStack}
+use Rattle.machine.specs.declared.answers.Why.the-variants.{TooLong, NoRoom, WrongLength, NoRecord, OffRegister, TooCoarse, ReadOnly, OutputFull}
 use Rattle.machine.specs.declared.journal.Mark.{Mark}
 use Rattle.machine.specs.declared.memory.Memory.{Memory}
 use Rattle.machine.specs.declared.memory.Memory.the-variants.{Cpu, Vdp, Register, Grom}
@@ -48,15 +49,16 @@ whyOf OutputFull = answers.outputFull
 unfoldable pub outs : Answer → ℕ → Mem → Out (Unit {0})
 outs a pc m = pick (eqb (a .number) 0) (got tt pc m) (stopped a m)
 
--- the machine as the code has it: the answer so far, pc and the memories, and the map of the image's bytes that were read
+-- the machine as the code has it: the answer so far, pc and the memories, the map of the image's bytes that were read, and the ring beside the journal
 pub record Stand : Type 0 where
   pub answer : Answer
   pub pc : ℕ
   pub mem : Mem
   pub map : List ℕ
+  pub ring : List ℕ
 
-abbrev pub stand : Answer → ℕ → Mem → List ℕ → Stand
-stand a pc m z = record { answer = a; pc = pc; mem = m; map = z }
+abbrev pub stand : Answer → ℕ → Mem → List ℕ → List ℕ → Stand
+stand a pc m z r = record { answer = a; pc = pc; mem = m; map = z; ring = r }
 
 abbrev pub outOf : Stand → Out (Unit {0})
 outOf s = outs (s .answer) (s .pc) (s .mem)
@@ -68,23 +70,29 @@ answerOf n = saying (n .answer) (n .address)
 abbrev pub memOf : List ℕ → ℕ → List ℕ → List ℕ → List ℕ → List ℕ → Book → Mem
 memOf i w p v g j b = mem i w p v g (turned (b .ring) (b .place) j) (b .used) (b .older) (b .place) (b .ring)
 
--- the same with no book but two numbers, which a plain journal has and nobody reads
+-- the same with a journal as a step sees it
+abbrev pub memSeen : List ℕ → ℕ → List ℕ → List ℕ → List ℕ → Mem → Mem
+memSeen i w p v g s = mem i w p v g (s .journal) (s .used) (s .older) (s .place) (s .ring)
+
+-- and with none but two numbers, which a plain journal has and nobody reads
 abbrev pub unbooked : List ℕ → ℕ → List ℕ → List ℕ → List ℕ → List ℕ → ℕ → ℕ → Mem
 unbooked i w p v g j o a = mem i w p v g j 0 o a false
 
 -- the state beside them, and beside the map, the ring or those two numbers
 abbrev pub standing : List ℕ → List ℕ → ℕ → List ℕ → List ℕ → List ℕ → List ℕ → List ℕ → ℕ → ℕ → Now → Stand
-standing i z w p v g j r o a n = stand (answerOf n) (n .pc) (memOf i w p v g j (bookOf r o a (n .used))) z
+standing i z w p v g j r o a n = stand (answerOf n) (n .pc) (memSeen i w p v g (seen j r o a (n .used))) z r
 
--- from s the rule goes to t, and gives a; what it reads is marked
+-- from s the rule goes to t, and gives a; what it reads is marked, and the ring stays
 pub record Goes {A : Type 0} (s : Stand) (r : Rule A) (a : A) (t : Stand) : Type 0 where
   pub is : valued a (outOf t) ≡ after (outOf s) r
   pub marks : t .map ≡ marked (readsAfter (outOf s) r) (s .map)
+  pub ring : t .ring ≡ s .ring
 
 -- what is left to do: to do r from s, it is enough to do q from t, in the map too
 pub record Owes {A : Type 0} (s : Stand) (r : Rule A) (t : Stand) (q : Rule A) : Type 0 where
   pub is : after (outOf t) q ≡ after (outOf s) r
   pub marks : marked (readsAfter (outOf t) q) (t .map) ≡ marked (readsAfter (outOf s) r) (s .map)
+  pub ring : t .ring ≡ s .ring
 
 -- ---- the states that the code makes
 
@@ -231,7 +239,16 @@ abbrev pub memAfter : (q : Parts) → Rest q → Book → Mem
 memAfter q w b =
     memOf (after′ (q .image) (w .image)) (groupsIn (q .groups) (w .groups)) (after′ (q .pad) (w .pad)) (after′ (q .vram) (w .vram)) (after′ (q .regs) (w .regs)) (after′ (q .journal) (w .journal)) b
 
--- and of its book what the state has not: the ring, where it is not lent, and a plain journal's two numbers, which are any and stay
+-- and by the journal as a step sees it
+abbrev pub seenBefore : (q : Parts) → Rest q → Mem → Mem
+seenBefore q w s =
+    memSeen (before (q .image) (w .image)) (groupsIn (q .groups) (w .groups)) (before (q .pad) (w .pad)) (before (q .vram) (w .vram)) (before (q .regs) (w .regs)) s
+
+abbrev pub seenAfter : (q : Parts) → Rest q → Mem → Mem
+seenAfter q w s =
+    memSeen (after′ (q .image) (w .image)) (groupsIn (q .groups) (w .groups)) (after′ (q .pad) (w .pad)) (after′ (q .vram) (w .vram)) (after′ (q .regs) (w .regs)) s
+
+-- of which the state has not all: the ring, where it is not lent, and two numbers, a plain journal's, which stay; of a ring's the place where the step began
 pub record Around (q : Parts) : Type 0 where
   pub rest : Rest q
   pub ring : Unseen (q .ring)
@@ -239,10 +256,16 @@ pub record Around (q : Parts) : Type 0 where
   pub place : ℕ
 
 abbrev pub start : (q : Parts) → Around q → Now → Stand
-start q w m = stand (answerOf m) (m .pc) (memBefore q (w .rest) (bookOf (before (q .ring) (w .ring)) (w .older) (w .place) (m .used))) (before (q .map) (w .rest .map))
+start q w m =
+    stand (answerOf m) (m .pc)
+    (seenBefore q (w .rest) (seen (before (q .journal) (w .rest .journal)) (before (q .ring) (w .ring)) (w .older) (w .place) (m .used)))
+    (before (q .map) (w .rest .map)) (before (q .ring) (w .ring))
 
 abbrev pub end : (q : Parts) → Around q → Now → Stand
-end q w n = stand (answerOf n) (n .pc) (memAfter q (w .rest) (bookOf (after′ (q .ring) (w .ring)) (w .older) (w .place) (n .used))) (after′ (q .map) (w .rest .map))
+end q w n =
+    stand (answerOf n) (n .pc)
+    (seenAfter q (w .rest) (seen (after′ (q .journal) (w .rest .journal)) (after′ (q .ring) (w .ring)) (w .older) (w .place) (n .used)))
+    (after′ (q .map) (w .rest .map)) (after′ (q .ring) (w .ring))
 
 -- m goes in, n comes out, and a value: whatever the rest of the machine is, the rule goes from what was lent to what is left, and gives the value
 abbrev pub Gives : {A : Type 0} → A → Rule A → (Parts → Parts) → Now → Now → Type 0
@@ -258,7 +281,9 @@ Leaves r q f m n = (rest : Around (f unseenAll)) → Owes (start (f unseenAll) r
 -- the mark of a step that began at an address, with its flag above it, is taken
 abbrev pub Marks : ℕ → (Parts → Parts) → Now → Now → Type 0
 Marks a f m n =
-    (rest : Around (f unmapped)) → outOf (end (f unmapped) rest n) ≡ then (outOf (start (f unmapped) rest m)) (λ _ pc₁ m₁. calls.takeMark a pc₁ m₁)
+    (rest : Around (f unmapped))
+    → (outOf (end (f unmapped) rest n) ≡ then (outOf (start (f unmapped) rest m)) (λ _ pc₁ m₁. calls.takeMark a pc₁ m₁))
+    × (end (f unmapped) rest n .ring ≡ start (f unmapped) rest m .ring)
 
 -- the memories become what a function makes of them, and the journal's book b becomes c
 abbrev pub Became : (Mem → Mem) → (Parts → Parts) → Book → Book → Type 0
@@ -327,25 +352,25 @@ groupsOf Vdp m = m .groups
 groupsOf Register m = m .groups
 groupsOf (Grom w) m = w
 
--- a machine with other cells of one kind, and the caller's journal with its book beside them
-abbrev pub with : Memory → List ℕ → List ℕ → Book → Mem → Mem
-with k c j b m =
-    memOf (upon (kindOf k) (m .image) (m .image) (m .image) c) (groupsOf k m) (upon (kindOf k) c (m .pad) (m .pad) (m .pad))
-    (upon (kindOf k) (m .vram) c (m .vram) (m .vram)) (upon (kindOf k) (m .regs) (m .regs) c (m .regs)) j b
+-- a machine with other cells of one kind, and a journal as a step sees it
+abbrev pub with : Memory → List ℕ → Mem → Mem → Mem
+with k c s m =
+    memSeen (upon (kindOf k) (m .image) (m .image) (m .image) c) (groupsOf k m) (upon (kindOf k) c (m .pad) (m .pad) (m .pad))
+    (upon (kindOf k) (m .vram) c (m .vram) (m .vram)) (upon (kindOf k) (m .regs) (m .regs) c (m .regs)) s
 
 -- a byte is loaded from one of its cells: in any machine that has these, by any ring, whatever its map is
 abbrev pub Loads : Memory → ℕ → Lent → Now → Now → Type 0
 Loads k a s m n =
     (x : Mem) (r z : List ℕ)
-    → Goes (stand (answerOf m) (m .pc) (with k (now (s .entry)) (x .journal) (bookOf r (x .older) (x .place) (m .used)) x) z) (peek (kindOf k) a) (n .byte)
-    (stand (answerOf n) (n .pc) (with k (now (s .entry)) (x .journal) (bookOf r (x .older) (x .place) (n .used)) x) z)
+    → Goes (stand (answerOf m) (m .pc) (with k (now (s .entry)) (seen (x .journal) r (x .older) (x .place) (m .used)) x) z r) (peek (kindOf k) a) (n .byte)
+    (stand (answerOf n) (n .pc) (with k (now (s .entry)) (seen (x .journal) r (x .older) (x .place) (n .used)) x) z r)
 
 -- a byte is stored into one
 abbrev pub Stores : Memory → ℕ → ℕ → Lent → Lent → Lent → Now → Now → Type 0
 Stores k a b s j r m n =
     (x : Mem) (z : List ℕ)
-    → Goes (stand (answerOf m) (m .pc) (with k (now (s .entry)) (now (j .entry)) (bookOf (now (r .entry)) (x .older) (x .place) (m .used)) x) z) (poke (kindOf k) a b) tt
-    (stand (answerOf n) (n .pc) (with k (now (s .exit)) (now (j .exit)) (bookOf (now (r .exit)) (x .older) (x .place) (n .used)) x) z)
+    → Goes (stand (answerOf m) (m .pc) (with k (now (s .entry)) (seen (now (j .entry)) (now (r .entry)) (x .older) (x .place) (m .used)) x) z (now (r .entry))) (poke (kindOf k) a b) tt
+    (stand (answerOf n) (n .pc) (with k (now (s .exit)) (seen (now (j .exit)) (now (r .exit)) (x .older) (x .place) (n .used)) x) z (now (r .exit)))
 
 -- a byte is put into a cell, if there is one
 abbrev pub Puts : ℕ → ℕ → Lent → Type 0

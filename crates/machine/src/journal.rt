@@ -23,11 +23,11 @@ pub fn take_mark(journal: &mut [u32], ring: &mut [usize], m: Now, pc: u16, sourc
     if m.answer != 0 {
         return m;
     }
-    let laid = book::lay_round(journal, ring, used, number::words::mark_of(pc, source));
-    if journal.len() <= laid {
-        return state::refused(state::keeping(m, laid), Why::NoRoom);
+    if journal.len() <= used {
+        return state::refused(m, Why::NoRoom);
     }
-    let more = laid + 1;
+    book::lay(journal, ring, used, number::words::mark_of(pc, source));
+    let more = used + 1;
     state::keeping(m, more)
 }
 

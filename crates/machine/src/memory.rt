@@ -108,13 +108,13 @@ pub fn store(
     if !allowed {
         return state::refused(m, Why::ReadOnly);
     }
+    if journal.len() <= used {
+        return state::refused(m, Why::NoRoom);
+    }
     let old = memory[at];
     let a = at as u32;
-    let laid = book::lay(journal, ring, used, number::words::pack(kind(k), a, old));
-    if journal.len() <= laid {
-        return state::refused(state::keeping(m, laid), Why::NoRoom);
-    }
+    book::lay(journal, ring, used, number::words::pack(kind(k), a, old));
     memory[at] = b;
-    let more = laid + 1;
+    let more = used + 1;
     state::keeping(m, more)
 }

@@ -24,13 +24,13 @@ use Rattle.operand.specs.Meaning.{cellOf, placeOf, nowOf}
 pub near : (n : ℕ) (c : Cell) → inReach n c ≡ true → c .at + n ≤ 16384
 near n c h = le-trans (leb-true _ _ h) (reach-small (c .kind))
 
-module _ (n : ℕ) (c : Cell) {a : Answer} {pc : ℕ} {m : Mem} {y : List ℕ} where
-  pub reached-at : a .number ≡ 0 → inReach n c ≡ true → Goes (stand a pc m y) (reached n c) c (stand a pc m y)
+module _ (n : ℕ) (c : Cell) {a : Answer} {pc : ℕ} {m : Mem} {y ρ : List ℕ} where
+  pub reached-at : a .number ≡ 0 → inReach n c ≡ true → Goes (stand a pc m y ρ) (reached n c) c (stand a pc m y ρ)
   unfolding reached
   reached-at z h = seq (need-holds _ h) (gives refl)
 
   pub reached-out : {why : Why} {v : Cell} → a .number ≡ 0 → inReach n c ≡ false → why ≡ outside (c .kind) (firstOut c)
-      → Goes (stand a pc m y) (reached n c) v (stand (answerFor why) pc m y)
+      → Goes (stand a pc m y ρ) (reached n c) v (stand (answerFor why) pc m y ρ)
   unfolding reached
   reached-out z h e = refuses _ z e h
 

@@ -2,16 +2,16 @@
 use mathlib.Core.Path.{_≡_, refl, _∙_, ap, ap₂, sym, subst}
 use mathlib.Core.Bool.{Bool, true, false}
 use mathlib.Core.List.{List, [], _∷_, _++_, append-nil, append-assoc}
-use Prim.Native.Nat.{ℕ, zero, suc, _+_, _-_, _%_, _≤_, _<_}
-use native.Mathlib.Nat.{mod-lt, mod-eq-of-lt, mod-add-mod, mod-eq-sub-mod, mod-self}
+use Prim.Native.Nat.{ℕ, zero, suc, _+_, _-_, _%_, _^_, _≤_, _<_}
+use native.Mathlib.Nat.{mod-lt, mod-eq-of-lt, mod-mod, mod-add-mod, add-mod-mod, add-mod-right, mod-eq-sub-mod, mod-self}
 use native.Mathlib.Numerals.{add-one}
 use native.Mathlib.Omega.{arith}
 use lib.Dec.{ltb}
 use lib.ListN.{length, getD, set, take, drop, length-append, length-set, length-drop, length-take, drop-of-length-le, take-append-drop, List·getD-append}
-use lib.Seq.{take-all, drop-cons, getD-append-add, getD-take, getD-drop, set-append-left, take-set-le, take-set-lt, drop-set-lt, drop-set-add, take-suc-set, take-at, drop-at}
+use lib.Seq.{take-all, drop-cons, getD-append-add, getD-take, getD-drop, set-append-left, take-set-le, take-set-lt, drop-set-lt, drop-set-add, take-suc-set, take-at, drop-at, ext-getD}
 use borrow.Author.Tests.{ltb-true, ltb-false}
 use Rattle.rules.specs.Machine.{pick}
-use Rattle.rules.specs.Journal.{turned}
+use Rattle.rules.specs.Journal.{turned, placeOn}
 use Rattle.ring.specs.Meaning.{slotOf}
 
 -- the words from one of them on, round to it
@@ -173,3 +173,71 @@ turned-forget j a s b h e f =
     let in-place : b % length j ≡ b = mod-eq-of-lt (subst (λ (x : ℕ). x < length j) (sym f) (mod-lt (s + 1) h)) in
     ap (λ (x : ℕ). drop 1 (from x j) ++ 0 ∷ []) (sym e) ∙ next j s below (ltb (suc s) (length j)) refl
     ∙ ap (λ (x : ℕ). from x (set j s 0)) (sym (in-place ∙ on)) ∙ ap (λ (n : ℕ). from (b % n) (set j s 0)) (sym (length-set j s 0))
+
+-- ---- turned twice
+
+-- places that are one
+pub turned-mod : (j : List ℕ) (a b : ℕ) → a % length j ≡ b % length j → turned true a j ≡ turned true b j
+unfolding turned
+turned-mod j a b e = ap (λ (x : ℕ). from x j) e
+
+module _ (j : List ℕ) (s t : ℕ) where
+  once : List ℕ
+  once = turned true s j
+
+  as-many : length once ≡ length j
+  unfolding once
+  as-many = length-turned true s j
+
+  word : (i : ℕ) → i < length j → getD (turned true t once) i 0 ≡ getD (turned true (s + t) j) i 0
+  unfolding once slotOf
+  word i h =
+      let k : ℕ = (t + i) % length j in
+      let low : k < length j = mod-lt (t + i) (omega arith) in
+      let z : s + (t + i) ≡ s + t + i = omega arith in
+      turned-getD once t i (rw as-many h) true ∙ ap (λ (c : ℕ). getD once ((t + i) % c) 0) as-many ∙ turned-getD j s k low true
+      ∙ ap (λ (x : ℕ). getD j x 0) (add-mod-mod s (t + i) (length j) ∙ ap (λ (x : ℕ). x % length j) z) ∙ sym (turned-getD j (s + t) i h true)
+
+  turned-twice : turned true t (turned true s j) ≡ turned true (s + t) j
+  unfolding once
+  turned-twice =
+      ext-getD 0 (turned true t once) (turned true (s + t) j) (length-turned true t once ∙ as-many ∙ sym (length-turned true (s + t) j))
+      (λ i h. word i (rw (length-turned true t once ∙ as-many) at h))
+
+-- ---- the place of the oldest word left, by that of a step's first word
+
+pub place-on : (v c a : ℕ) → placeOn (suc v) c a ≡ (a + suc v) % c
+place-on zero c a = refl
+place-on (suc v) c a =
+    let z : a + 1 + suc v ≡ a + suc (suc v) = omega arith in
+    place-on v c ((a + 1) % c) ∙ mod-add-mod (a + 1) c (suc v) ∙ ap (λ (x : ℕ). x % c) z
+
+pub place-next : (v c a : ℕ) → placeOn (suc v) c a ≡ (placeOn v c a + 1) % c
+place-next zero c a = refl
+place-next (suc v) c a = place-next v c ((a + 1) % c)
+
+place-mod : (v c a : ℕ) → placeOn v c a % c ≡ (a + v) % c
+place-mod zero c a =
+    let z : a ≡ a + 0 = omega arith in
+    ap (λ (x : ℕ). x % c) z
+place-mod (suc v) c a = ap (λ (x : ℕ). x % c) (place-on v c a) ∙ mod-mod (a + suc v) c
+
+-- y words are left of those that stood before it, and v are laid over
+pub turned-round : (j : List ℕ) (a y v : ℕ) → y + v ≤ length j → length j < 2 ^ 61
+    → turned true (length j - y) (turned true ((a + (y + v)) % length j % 2 ^ 61) j) ≡ turned true (placeOn v (length j) a) j
+turned-round j a y v h l = go (ltb 0 (length j)) refl
+  where
+    go : (c : Bool) → ltb 0 (length j) ≡ c
+        → turned true (length j - y) (turned true ((a + (y + v)) % length j % 2 ^ 61) j) ≡ turned true (placeOn v (length j) a) j
+    go true e =
+        let s : ℕ = (a + (y + v)) % length j in
+        let below : s < length j = mod-lt (a + (y + v)) (ltb-true 0 (length j) e) in
+        let z : a + (y + v) + (length j - y) ≡ a + v + length j = omega arith in
+        ap (λ (x : ℕ). turned true (length j - y) (turned true x j)) (mod-eq-of-lt (omega arith)) ∙ turned-twice j s (length j - y)
+        ∙ turned-mod j (s + (length j - y)) (placeOn v (length j) a)
+        (mod-add-mod (a + (y + v)) (length j) (length j - y) ∙ ap (λ (x : ℕ). x % length j) z ∙ add-mod-right (a + v) (length j) ∙ sym (place-mod v (length j) a))
+    go false e =
+        let s : ℕ = (a + (y + v)) % length j % 2 ^ 61 in
+        let none : length j ≡ 0 = omega (arith, ltb-false 0 (length j) e) in
+        let long : length (turned true (length j - y) (turned true s j)) ≡ length j = length-turned true (length j - y) (turned true s j) ∙ length-turned true s j in
+        ext-getD 0 _ _ (long ∙ sym (length-turned true (placeOn v (length j) a) j)) (λ i b. absurd (omega (arith, long, none)))

@@ -1,14 +1,10 @@
-// The journal's book, and what is done to the journal by it: a word read, laid, wiped, and the oldest step dropped.
+// The journal's book, and what is done to the journal by it: a word read, laid, wiped, and the oldest steps dropped.
 ghost use mathlib.Core.Path.{_≡_};
 ghost use mathlib.Core.Bool.{true};
-ghost use mathlib.Core.Logic.{_⊎_};
-ghost use Prim.Native.Nat.{ℕ, _+_, _-_, _%_, _≤_, _<_};
+ghost use Prim.Native.Nat.{_+_, _%_, _^_, _≤_, _<_};
 ghost use lib.ListN.{length, getD, take};
-ghost use Rattle.rules.specs.Machine.{Mem};
-ghost use Rattle.rules.specs.Journal;
-ghost use Rattle.rules.specs.Journal.{turned, zeroTop, forget, untilMark, oldest, olderWords};
-ghost use Rattle.rules.specs.Rules;
-ghost use Rattle.ring.specs.Meaning.{slotOf, oneMore, Becomes, LaysPlain, Lays};
+ghost use Rattle.rules.specs.Journal.{turned, zeroTop, forget, untilMark};
+ghost use Rattle.ring.specs.Meaning.{slotOf, Becomes, Closes, Lays};
 
 // How many words are used, how many of them are of steps before the one that is being made, the place of the oldest, and whether whole oldest steps are
 // dropped.
@@ -67,15 +63,6 @@ pub fn word_at(journal: &[u32], b: Book, i: usize) -> u32
     journal[at]
 }
 
-// A word laid on the used ones.
-fn put(journal: &mut [u32], b: Book, w: u32)
-    requires { ⌜ b .used < length (now journal) ⌝ }
-    ensures { λ _. ⌜ Becomes (Journal.lay w) journal b (oneMore b) ⌝ }
-{
-    let at = slot(journal.len(), b.ring, b.place, b.used);
-    journal[at] = w;
-}
-
 // The i-th word set to 0, and those below it used.
 pub fn wipe(journal: &mut [u32], b: Book, i: usize) -> Book
     requires { ⌜ i < length (now journal) ⌝ }
@@ -97,7 +84,7 @@ fn forget_one(journal: &mut [u32], b: Book) -> Book
     ensures { λ r. ⌜ Becomes (forget 1) journal b r ⌝ }
 {
     let n = journal.len();
-    let at = within(n, b.place);
+    let at = b.place % n;
     journal[at] = 0;
     let used = b.used - 1;
     let older = b.older - 1;
@@ -128,92 +115,61 @@ fn forget_unmarked(journal: &mut [u32], b: Book, most: usize) -> Book
     c
 }
 
-fn least(a: usize, b: usize) -> usize
-    ensures { λ r. ⌜ (r ≤ a) × (r ≤ b) × ((r ≡ a) ⊎ (r ≡ b)) ⌝ }
+// The place so many words on from another, round the end.
+pub fn further(n: usize, place: usize, words: usize) -> usize
+    requires { ⌜ (words ≤ n) × (n < 2 ^ 61) ⌝ }
+    ensures { λ r. ⌜ r ≡ (place + words) % n ⌝ }
 {
-    if a < b {
-        return a;
-    }
-    b
-}
-
-// The oldest step dropped: its first word, and those before the next mark.
-fn forget_oldest(journal: &mut [u32], b: Book) -> Book
-    requires { ⌜ (0 < length (now journal)) × (b .ring ≡ true) × (length (now journal) ≤ b .used) × (0 < b .older) ⌝ }
-    ensures { λ r. ⌜ Becomes (λ m. forget (oldest (olderWords m)) m) journal b r ⌝ }
-{
-    let most = least(b.older, journal.len());
-    let rest = most - 1;
-    let c = forget_one(journal, b);
-    forget_unmarked(journal, c, rest)
-}
-
-// Room for a word: where there is none, the oldest step is dropped, if steps are dropped and one is left.
-fn spare(journal: &mut [u32], b: Book) -> Book
-    ensures { λ r. ⌜ Becomes Rules.spare journal b r ⌝ }
-{
-    let n = journal.len();
-    if b.used < n {
-        return b;
-    }
-    if !b.ring {
-        return b;
-    }
-    if b.older == 0 {
-        return b;
-    }
     if n == 0 {
-        return b;
+        return place;
     }
-    forget_oldest(journal, b)
+    (place % n + words) % n
 }
 
-// A word laid in a plain journal, if there is room for it. How many words are used before it is handed back, here and below: it was laid where they are fewer
-// than the journal's. A struct would be handed back in memory, and with it the state of a step.
-fn lay_plain(journal: &mut [u32], used: usize, w: u32) -> usize
-    ensures { λ r. ⌜ LaysPlain w journal used r ⌝ }
+// The book at the end of a step that began with `b`, by its own words in a ring, and by all in a plain journal. Where words were laid over older ones, the rest
+// of the step that these were of is dropped too.
+pub fn close(journal: &mut [u32], b: Book, words: usize) -> Book
+    requires { ⌜ (b .used ≤ length (now journal)) × (words ≤ length (now journal)) ⌝ }
+    ensures { λ r. ⌜ Closes journal b words r ⌝ }
 {
-    if journal.len() <= used {
-        return used;
+    if !b.ring {
+        return Book {
+            used: words,
+            older: b.used,
+            place: b.place,
+            ring: false,
+        };
     }
-    journal[used] = w;
-    used
-}
-
-// The same in either mode: in a ring, room is made. A ring's two numbers are lent beside the journal, and a plain journal is lent none.
-pub fn lay_round(journal: &mut [u32], ring: &mut [usize], used: usize, w: u32) -> usize
-    ensures { λ r. ⌜ Lays w journal ring used r ⌝ }
-{
-    if ring.len() < 2 {
-        return lay_plain(journal, used, w);
+    let n = journal.len();
+    let free = n - b.used;
+    if words <= free {
+        return Book {
+            used: b.used + words,
+            older: b.used,
+            place: b.place,
+            ring: true,
+        };
     }
-    let b = Book {
-        used,
-        older: ring[0],
-        place: ring[1],
+    let older = n - words;
+    let kept = Book {
+        used: n,
+        older,
+        place: further(n, b.place, words - free),
         ring: true,
     };
-    if used < journal.len() {
-        put(journal, b, w);
-        return used;
-    }
-    let spared = spare(journal, b);
-    ring[0] = spared.older;
-    ring[1] = spared.place;
-    let there = spared.used;
-    if journal.len() <= there {
-        return there;
-    }
-    put(journal, spared, w);
-    there
+    forget_unmarked(journal, kept, older)
 }
 
-// The same, with a plain journal in line where a byte is stored.
-pub fn lay(journal: &mut [u32], ring: &mut [usize], used: usize, w: u32) -> usize
-    ensures { λ r. ⌜ Lays w journal ring used r ⌝ }
+// A word laid where so many are used; in a ring, where so many are the step's own, from its first word on. Any place is below 2^61, so that the sum fits.
+pub fn lay(journal: &mut [u32], ring: &mut [usize], used: usize, w: u32)
+    requires { ⌜ used < length (now journal) ⌝ }
+    ensures { λ _. ⌜ Lays w journal ring used ⌝ }
 {
     if ring.len() < 2 {
-        return lay_plain(journal, used, w);
+        journal[used] = w;
+        return;
     }
-    lay_round(journal, ring, used, w)
+    let first = ring[0] % 2305843009213693952;
+    let at = (first + used) % journal.len();
+    journal[at] = w;
 }

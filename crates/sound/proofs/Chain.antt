@@ -99,28 +99,28 @@ by-rule {s = s} {t = t} {a = a} {k = k} {l = l} {o = o} {p = p} e x = subst (λ 
 
 -- ---- the ways out of a send
 
-module _ (z : Answer) (pc : ℕ) (m : Mem) (y : List ℕ) (b left : ℕ) (h : z .number ≡ 0) where
-  none-sent : left ≡ 0 → (sends (outOf (stand z pc m y)) (sendByte left b) ≡ []) × Goes (stand z pc m y) (sendByte left b) tt (stand (answerFor outputFull) pc m y)
+module _ (z : Answer) (pc : ℕ) (m : Mem) (y ρ : List ℕ) (b left : ℕ) (h : z .number ≡ 0) where
+  none-sent : left ≡ 0 → (sends (outOf (stand z pc m y ρ)) (sendByte left b) ≡ []) × Goes (stand z pc m y ρ) (sendByte left b) tt (stand (answerFor outputFull) pc m y ρ)
   unfolding outs sends sent need _>>=_ sendByte
   none-sent e = (rw (h, e), acts.refuses (emit b) h refl (le-ltb 0 left (omega arith)))
 
-  one-sent : 0 < left → (sends (outOf (stand z pc m y)) (sendByte left b) ≡ b ∷ []) × Goes (stand z pc m y) (sendByte left b) tt (stand z pc m y)
+  one-sent : 0 < left → (sends (outOf (stand z pc m y ρ)) (sendByte left b) ≡ b ∷ []) × Goes (stand z pc m y ρ) (sendByte left b) tt (stand z pc m y ρ)
   unfolding outs sends sent after exec need _>>=_ sendByte perform actSent actReads
   one-sent l = (
     rw (h, lt-ltb 0 left l),
-    chain.seq (acts.need-holds outputFull (lt-ltb 0 left l)) (chain.goes (reading.acts (λ pc m. refl) (λ v. reading.gives)) (rw h) refl),
+    chain.seq (acts.need-holds outputFull (lt-ltb 0 left l)) (chain.goes (reading.acts (λ pc m. refl) (λ v. reading.gives)) (rw h) refl refl),
   )
 
-module _ {z : Answer} {pc : ℕ} {m : Mem} {y : List ℕ} {k : ℕ} {o : List ℕ} (b : ℕ) (h : z .number ≡ 0) where
-  pub full : length o ≤ k → Lays (stand z pc m y) (sendByte (length o - k) b) tt (stand (answerFor outputFull) pc m y) k k o o
+module _ {z : Answer} {pc : ℕ} {m : Mem} {y ρ : List ℕ} {k : ℕ} {o : List ℕ} (b : ℕ) (h : z .number ≡ 0) where
+  pub full : length o ≤ k → Lays (stand z pc m y ρ) (sendByte (length o - k) b) tt (stand (answerFor outputFull) pc m y ρ) k k o o
   full l =
-      let e : _ = none-sent z pc m y b (length o - k) h (omega arith) in
+      let e : _ = none-sent z pc m y ρ b (length o - k) h (omega arith) in
       unsent (e .0) (e .1)
 
-  pub put : k < length o → Lays (stand z pc m y) (sendByte (length o - k) b) tt (stand z pc m y) k (k + 1) o (set o k b)
+  pub put : k < length o → Lays (stand z pc m y ρ) (sendByte (length o - k) b) tt (stand z pc m y ρ) k (k + 1) o (set o k b)
   unfolding laid
   put l =
-      let e : _ = one-sent z pc m y b (length o - k) h (omega arith) in
+      let e : _ = one-sent z pc m y ρ b (length o - k) h (omega arith) in
       record { goes = e .1; output = rw (e .0); count = rw (e .0); fits = λ _. omega arith }
 
 -- ---- what is left to do

@@ -16,7 +16,11 @@ returns-2 c = rw (sym (c .before .before .before .image-fits .ensures) ∙ grant
 
 returns-3 : tie.Need-returns-3
 unfolding _also_
-returns-3 c = rw (sym (c .before .before .before .before .image-fits .ensures) ∙ granted _ (c .before .before .before .if1 .left), sym (c .before .before .parts-fit .ensures) ∙ granted _ (c .before .if2 .left)) (c .place-fits .ensures)
+returns-3 c = rw (
+  sym (c .before .before .before .before .image-fits .ensures) ∙ granted _ (c .before .before .before .if1 .left),
+  sym (c .before .before
+      .parts-fit .ensures) ∙ granted _ (c .before .if2 .left),
+) (c .place-fits .ensures)
 
 pub all-fit-spec : {M : Type 1} → statement M
 all-fit-spec =

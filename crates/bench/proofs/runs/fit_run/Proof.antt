@@ -24,7 +24,8 @@ loop-holds : tie.Need-loop-holds Inv-loop μ-loop
 loop-holds c =
     let at-slice-known = c .before .before .before .before .before in
     let start = at-slice-known .before in (
-      sets-out _ (start .pre) (omega (arith, start .good .1 .1 .1 .1 .1 .1 .0)) (omega (arith, start .good .1 .1 .1 .1 .1 .1 .0)) (at-slice-known .slice-known .given) (c .before .before .before .slice-known3 .given) (c .before .before .slice-known4 .given) (c .before .slice-known5 .given),
+      sets-out _ (start .pre) (omega (arith, start .good .1 .1 .1 .1 .1 .1 .0)) (omega (arith, start .good .1 .1 .1 .1 .1 .1 .0)) (at-slice-known .slice-known
+          .given) (c .before .before .before .slice-known3 .given) (c .before .before .slice-known4 .given) (c .before .slice-known5 .given),
       marks-start _ _ _,
       refl,
       refl,
@@ -53,11 +54,20 @@ add-stores c =
     let at-fit-step = c .before .before .before .before .before .before .before .before .before .before .before .before .before .before .before .before in
     let at-loop = at-fit-step .before .before .before .before .before .before .before .before in
     let start = at-loop .before .before .before .before .before .before .before in
-    record { fits = omega (arith, few (at-loop .loop .inv .0) (at-fit-step .fit-step .ensures .0 _) (c .before .if1 .left), at-loop .loop .inv .0 .stored, at-loop .loop .inv .0 .made, start .fits .n .fits) }
+    record {
+      fits = omega (
+        arith,
+        few (at-loop .loop .inv .0) (at-fit-step .fit-step .ensures .0 _) (c .before .if1 .left),
+        at-loop .loop .inv .0 .stored,
+        at-loop .loop .inv .0 .made,
+        start .fits .n .fits,
+      );
+    }
 
 add-done : tie.Need-add-done Inv-loop μ-loop
 add-done c =
-    let at-loop-test = c .before .before .before .before .before .before .before .before .before .before .before .before .before .before .before .before .before .before .before .before .before .before .before in
+    let at-loop-test = c .before .before .before .before .before .before .before .before .before .before .before .before .before .before .before .before
+    .before .before .before .before .before .before .before in
     let start = at-loop-test .before .before .before .before .before .before .before .before in
     record { fits = omega (arith, at-loop-test .loop-test .taken, start .fits .n .fits) }
 

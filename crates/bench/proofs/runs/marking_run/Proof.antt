@@ -11,7 +11,8 @@ returns : tie.Need-returns
 returns c =
     let start = c .before .before .before .before .before .before .before .before .before in
     let fit =
-    (tested (start .args .image .now) (start .args .pad .now) (start .args .vram .now) (start .args .regs .now) (start .args .journal .now) (start .args .at) (c .before .before .all-fit .ensures)) in (
+    (tested (start .args .image .now) (start .args .pad .now) (start .args .vram .now) (start .args .regs .now) (start .args .journal .now) (start .args .at)
+    (c .before .before .all-fit .ensures)) in (
       λ _. rw (c .turned-down .ensures) (run-unfit _ fit (denied _ (c .before .if1 .taken))),
       λ _. marks-none _ _ _ (sym fit ∙ denied _ (c .before .if1 .taken)),
     )

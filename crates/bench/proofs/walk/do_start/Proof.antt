@@ -1,7 +1,9 @@
 -- The mark, then the start, are the rules' attempt.
 use mathlib.Core.Path.{_∙_}
+use mathlib.Core.List.{[]}
 use native.Mathlib.Omega.{arith}
 use Rattle.ring.proofs.Turned.{as-long}
+use Rattle.bench.proofs.Lending.{still-lends}
 use Rattle.bench.proofs.Steps.{tries, tries-marks, begun, lent-so}
 use borrow.Author.Needs.{needs}
 use Rattle.bench.proofs.walk.do_start.Statement.{statement}
@@ -9,7 +11,8 @@ use Rattle.bench.proofs.walk.do_start.Tie as tie
 
 same-length-2 : tie.Need-same-length-2
 same-length-2 c =
-    let at-start = c .before .before .before .before .before .before .before .before .before .before .before .before .before .before .before .before .before .before .before .before .before .before .before .before .before .before .before in
+    let at-start = c .before .before .before .before .before .before .before .before .before .before .before .before .before .before .before .before .before
+    .before .before .before .before .before .before .before .before .before .before in
     at-start .start .kept .1 .0
 
 same-length-3 : tie.Need-same-length-3
@@ -25,8 +28,28 @@ settle-requires c κs =
     let at-begin = at-take-mark .before in
     let start = at-begin .before .before .before .before .before .before .before .before .before .before in
     let lent = start .args in
-    begun (tries {i = lent .image .now} {p = lent .pad .now} {v = lent .vram .now} {g = lent .regs .now} _ {at = lent .at} (at-begin .begin .ensures) (start .pre .1)
-    (at-take-mark .take-mark .ensures _) (at-start .start .ensures _)) (as-long _ _ _ (start .pre .0 .used))
+    let long = at-start .start .kept .1 .1 .1 .1 .0 ∙ at-take-mark .take-mark .kept .0 in
+    let same = at-start .start .ensures (record {
+      rest = record { image = tt; map = tt; groups = 0; pad = tt; vram = tt; regs = []; journal = tt };
+      ring = tt;
+      older = 0;
+      place = 0;
+    }) .ring ∙ at-take-mark .take-mark .ensures (record {
+      rest = record {
+        image = [];
+        map = tt;
+        groups = 0;
+        pad = [];
+        vram = [];
+        regs = [];
+        journal = tt;
+      };
+      ring = tt;
+      older = 0;
+      place = 0;
+    }) .1 in
+    begun (tries {i = lent .image .now} {p = lent .pad .now} {v = lent .vram .now} {g = lent .regs .now} _ {at = lent .at} (at-begin .begin .ensures) (start .pre .0 .used) (start .pre .1)
+    (at-take-mark .take-mark .ensures _ .0) (at-start .start .ensures _)) (as-long _ _ _ (start .pre .0 .used)) (omega (arith, start .pre .0 .used, long)) (still-lends (start .pre .1) same long)
 
 same-length-6 : tie.Need-same-length-6
 same-length-6 c =
@@ -56,8 +79,8 @@ returns c =
       λ _. at-settle .settle .ensures _ _ _ _
           (lent-so _ (start .pre .0 .used) (omega (arith, start .good .1 .1 .1 .1 .1 .1 .1 .0)) (omega (arith, start .good .1 .1 .1 .1 .1 .1 .1 .0)) (at-slice-known .slice-known .given)
           (at-slice-known3 .slice-known3 .given) (at-slice-known4 .slice-known4 .given) (at-slice-known5 .slice-known5 .given))
-          (tries _ (at-begin .begin .ensures) (start .pre .1) (at-take-mark .take-mark .ensures _) (at-start .start .ensures _)),
-      λ _. tries-marks _ _ _ _ _ (start .args .at) (at-begin .begin .ensures) (start .pre .1) (at-take-mark .take-mark .ensures _) (at-start .start .ensures _),
+          (tries _ (at-begin .begin .ensures) (start .pre .0 .used) (start .pre .1) (at-take-mark .take-mark .ensures _ .0) (at-start .start .ensures _)),
+      λ _. tries-marks _ _ _ _ _ (start .args .at) (at-begin .begin .ensures) (start .pre .0 .used) (start .pre .1) (at-take-mark .take-mark .ensures _ .0) (at-start .start .ensures _),
     )
 
 pub do-start-spec : {M : Type 1} → statement M

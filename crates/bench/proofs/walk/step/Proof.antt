@@ -11,7 +11,8 @@ use Rattle.bench.proofs.walk.step.Tie as tie
 returns : tie.Need-returns
 returns c =
     let start = c .before .before .before .before .before .before .before .before in
-    λ _. rw (c .turned-down .ensures) (step-unfit instruction (tested (start .args .image .now) (start .args .pad .now) (start .args .vram .now) (start .args .regs .now) (start .args .journal .now) (start .args .at) (c .before .before .all-fit .ensures)) (denied _ (c .before .if1 .taken)))
+    λ _. rw (c .turned-down .ensures) (step-unfit instruction (tested (start .args .image .now) (start .args .pad .now) (start .args .vram .now) (start .args
+    .regs .now) (start .args .journal .now) (start .args .at) (c .before .before .all-fit .ensures)) (denied _ (c .before .if1 .taken)))
 
 fit-step-requires : tie.Need-fit-step-requires
 fit-step-requires c κs =
@@ -25,7 +26,8 @@ returns-2 c =
     let at-if1 = at-fit-step .before .before .before .before .before .before .before in
     let at-all-fit = at-if1 .before in
     let start = at-all-fit .before .before .before .before .before .before in
-    λ _. step-fits instruction (tested (start .args .image .now) (start .args .pad .now) (start .args .vram .now) (start .args .regs .now) (start .args .journal .now) (start .args .at) (at-all-fit .all-fit .ensures)) (granted _ (at-if1 .if1 .left)) (at-fit-step .fit-step .ensures .0 _)
+    λ _. step-fits instruction (tested (start .args .image .now) (start .args .pad .now) (start .args .vram .now) (start .args .regs .now) (start .args
+    .journal .now) (start .args .at) (at-all-fit .all-fit .ensures)) (granted _ (at-if1 .if1 .left)) (at-fit-step .fit-step .ensures .0 _)
 
 pub step-spec : {M : Type 1} → statement M
 step-spec =

@@ -11,7 +11,8 @@ use Rattle.bench.proofs.walk.step_back.Tie as tie
 returns : tie.Need-returns
 returns c =
     let start = c .before .before .before .before .before .before .before .before in
-    λ _. rw (c .turned-down .ensures) (back-unfit (tested (start .args .image .now) (start .args .pad .now) (start .args .vram .now) (start .args .regs .now) (start .args .journal .now) (start .args .at) (c .before .before .all-fit .ensures)) (denied _ (c .before .if1 .taken)))
+    λ _. rw (c .turned-down .ensures) (back-unfit (tested (start .args .image .now) (start .args .pad .now) (start .args .vram .now) (start .args .regs .now)
+    (start .args .journal .now) (start .args .at) (c .before .before .all-fit .ensures)) (denied _ (c .before .if1 .taken)))
 
 fit-back-requires : tie.Need-fit-back-requires
 fit-back-requires c κs =
@@ -25,7 +26,8 @@ returns-2 c =
     let at-if1 = at-fit-back .before .before .before .before .before .before in
     let at-all-fit = at-if1 .before in
     let start = at-all-fit .before .before .before .before .before .before in
-    λ _. back-fits (tested (start .args .image .now) (start .args .pad .now) (start .args .vram .now) (start .args .regs .now) (start .args .journal .now) (start .args .at) (at-all-fit .all-fit .ensures)) (granted _ (at-if1 .if1 .left)) (at-fit-back .fit-back .ensures _)
+    λ _. back-fits (tested (start .args .image .now) (start .args .pad .now) (start .args .vram .now) (start .args .regs .now) (start .args .journal .now)
+    (start .args .at) (at-all-fit .all-fit .ensures)) (granted _ (at-if1 .if1 .left)) (at-fit-back .fit-back .ensures _)
 
 pub step-back-spec : {M : Type 1} → statement M
 step-back-spec =

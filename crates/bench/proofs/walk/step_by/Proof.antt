@@ -23,8 +23,9 @@ returns c =
     let at-next-byte = c .before .before .before .before .before in
     let at-begin = at-next-byte .before in
     let start = at-begin .before .before .before .before .before .before .before .before .before .before in (
-      λ _. rw (c .refused .ensures) (step-beyond (from _ (start .args .at) (at-begin .begin .ensures) (at-next-byte .next-byte .ensures _)) (c .before .if1 .taken)),
-      λ _. missed-marked _ (from _ (start .args .at) (at-begin .begin .ensures) (at-next-byte .next-byte .ensures _)) (c .before .if1 .taken),
+      λ _. rw (c .refused .ensures) (step-beyond (from _ (start .args .at) (at-begin .begin .ensures) (start .pre .0 .used) (start .pre .1) (at-next-byte
+          .next-byte .ensures _)) (c .before .if1 .taken)),
+      λ _. missed-marked _ (from _ (start .args .at) (at-begin .begin .ensures) (start .pre .0 .used) (start .pre .1) (at-next-byte .next-byte .ensures _)) (c .before .if1 .taken),
     )
 
 returns-2 : tie.Need-returns-2
@@ -33,14 +34,17 @@ returns-2 c =
     let at-next-byte = at-if1 .before .before .before .before in
     let at-begin = at-next-byte .before in
     let start = at-begin .before .before .before .before .before .before .before .before .before .before in (
-      λ _. rw (c .turned-down .ensures) (step-halted (from _ (start .args .at) (at-begin .begin .ensures) (at-next-byte .next-byte .ensures _)) (at-if1 .if1 .left)
+      λ _. rw (c .turned-down .ensures) (step-halted (from _ (start .args .at) (at-begin .begin .ensures) (start .pre .0 .used) (start .pre .1) (at-next-byte
+          .next-byte .ensures _)) (at-if1 .if1 .left)
           (ap meant (sym (c .before .before .class .given .1)) ∙ c .before .before .before .before .class-of .ensures)),
-      λ _. halted-marked _ (from _ (start .args .at) (at-begin .begin .ensures) (at-next-byte .next-byte .ensures _)) (at-if1 .if1 .left) (ap meant (sym (c .before .before .class .given .1)) ∙ c .before .before .before .before .class-of .ensures),
+      λ _. halted-marked _ (from _ (start .args .at) (at-begin .begin .ensures) (start .pre .0 .used) (start .pre .1) (at-next-byte .next-byte .ensures _))
+          (at-if1 .if1 .left) (ap meant (sym (c .before .before .class .given .1)) ∙ c .before .before .before .before .class-of .ensures),
     )
 
 do-task-requires : tie.Need-do-task-requires
 do-task-requires c κs =
-    let start = c .before .before .before .before .before .before .before .before .before .before .before .before .before .before .before .before .before .before .before .before .before .before .before .before .before .before in
+    let start = c .before .before .before .before .before .before .before .before .before .before .before .before .before .before .before .before .before
+    .before .before .before .before .before .before .before .before .before in
     (record { pad = start .pre .0 .pad; vram = start .pre .0 .vram; regs = start .pre .0 .regs; used = start .pre .0 .used }, start .pre .1)
 
 returns-3 : tie.Need-returns-3
@@ -52,14 +56,16 @@ returns-3 c =
     let at-next-byte = at-if1 .before .before .before .before in
     let at-begin = at-next-byte .before in
     let start = at-begin .before .before .before .before .before .before .before .before .before .before in (
-      λ _. step-does _ (from _ (start .args .at) (at-begin .begin .ensures) (at-next-byte .next-byte .ensures _)) (at-if1 .if1 .left)
+      λ _. step-does _ (from _ (start .args .at) (at-begin .begin .ensures) (start .pre .0 .used) (start .pre .1) (at-next-byte .next-byte .ensures _)) (at-if1 .if1 .left)
           (ap meant (sym (at-class2 .class2 .given .1)) ∙ at-class-of .class-of .ensures) (at-do-task .do-task .ensures .0 _),
-      λ _. does-marked _ (from _ (start .args .at) (at-begin .begin .ensures) (at-next-byte .next-byte .ensures _)) (at-if1 .if1 .left) (ap meant (sym (at-class2 .class2 .given .1)) ∙ at-class-of .class-of .ensures) (at-do-task .do-task .ensures .1 _),
+      λ _. does-marked _ (from _ (start .args .at) (at-begin .begin .ensures) (start .pre .0 .used) (start .pre .1) (at-next-byte .next-byte .ensures _))
+          (at-if1 .if1 .left) (ap meant (sym (at-class2 .class2 .given .1)) ∙ at-class-of .class-of .ensures) (at-do-task .do-task .ensures .1 _),
     )
 
 do-start-requires : tie.Need-do-start-requires
 do-start-requires c κs =
-    let start = c .before .before .before .before .before .before .before .before .before .before .before .before .before .before .before .before .before .before .before .before .before .before .before .before .before .before in
+    let start = c .before .before .before .before .before .before .before .before .before .before .before .before .before .before .before .before .before
+    .before .before .before .before .before .before .before .before .before in
     (record { pad = start .pre .0 .pad; vram = start .pre .0 .vram; regs = start .pre .0 .regs; used = start .pre .0 .used }, start .pre .1)
 
 returns-4 : tie.Need-returns-4
@@ -71,9 +77,10 @@ returns-4 c =
     let at-next-byte = at-if1 .before .before .before .before in
     let at-begin = at-next-byte .before in
     let start = at-begin .before .before .before .before .before .before .before .before .before .before in (
-      λ _. step-starts _ (from _ (start .args .at) (at-begin .begin .ensures) (at-next-byte .next-byte .ensures _)) (at-if1 .if1 .left)
+      λ _. step-starts _ (from _ (start .args .at) (at-begin .begin .ensures) (start .pre .0 .used) (start .pre .1) (at-next-byte .next-byte .ensures _)) (at-if1 .if1 .left)
           (ap meant (sym (at-class3 .class3 .given .1)) ∙ at-class-of .class-of .ensures) (at-do-start .do-start .ensures .0 _),
-      λ _. starts-marked _ (from _ (start .args .at) (at-begin .begin .ensures) (at-next-byte .next-byte .ensures _)) (at-if1 .if1 .left) (ap meant (sym (at-class3 .class3 .given .1)) ∙ at-class-of .class-of .ensures) (at-do-start .do-start .ensures .1 _),
+      λ _. starts-marked _ (from _ (start .args .at) (at-begin .begin .ensures) (start .pre .0 .used) (start .pre .1) (at-next-byte .next-byte .ensures _))
+          (at-if1 .if1 .left) (ap meant (sym (at-class3 .class3 .given .1)) ∙ at-class-of .class-of .ensures) (at-do-start .do-start .ensures .1 _),
     )
 
 pub step-by-spec : {M : Type 1} → statement M

@@ -8,13 +8,15 @@ use Rattle.block.proofs.screen.all.Tie as tie
 
 same-length : tie.Need-same-length
 same-length c =
-    let at-next-byte = c .before .before .before .before .before .before .before .before .before .before .before .before .before .before .before .before .before .before .before .before .before .before .before .before .before .before .before .before .before .before .before .before in
+    let at-next-byte = c .before .before .before .before .before .before .before .before .before .before .before .before .before .before .before .before
+    .before .before .before .before .before .before .before .before .before .before .before .before .before .before .before .before in
     at-next-byte .next-byte .kept .1 .0
 
 poke-pad-requires-2 : tie.Need-poke-pad-requires-2
 poke-pad-requires-2 c κs =
     let at-poke-pad = c .before .before .before .before .before .before .before .before .before in
-    let start = at-poke-pad .before .before .before .before .before .before .before .before .before .before .before .before .before .before .before .before .before .before .before .before .before .before .before .before in
+    let start = at-poke-pad .before .before .before .before .before .before .before .before .before .before .before .before .before .before .before .before
+    .before .before .before .before .before .before .before .before in
     at-poke-pad .poke-pad .kept .0 ∙ start .pre .0
 
 returns : tie.Need-returns

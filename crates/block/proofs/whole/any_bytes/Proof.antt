@@ -37,7 +37,8 @@ returns c =
 
 add-k : tie.Need-add-k Inv-loop μ-loop
 add-k c =
-    let at-loop-test = c .before .before .before .before .before .before .before .before .before .before .before .before .before .before .before .before .before .before .before .before .before .before .before .before in
+    let at-loop-test = c .before .before .before .before .before .before .before .before .before .before .before .before .before .before .before .before
+    .before .before .before .before .before .before .before .before in
     let start = at-loop-test .before .before .before .before .before .before .before .before .before in
     record { fits = omega (arith, at-loop-test .loop-test .taken, start .fits .n .fits) }
 

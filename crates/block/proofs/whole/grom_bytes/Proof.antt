@@ -1,4 +1,4 @@
--- The invariant: of all the bytes, those from the k-th on are left to move; and every length is as it was. No address wraps, since k is below n.
+-- The invariant: of all the bytes, those from the k-th on are left to move; and every length is as it was. As k is below n, no address is beyond the end.
 use mathlib.Core.Path.{_≡_, refl, _∙_}
 use Prim.Native.Nat.{_-_, _≤_}
 use native.Mathlib.Omega.{arith}
@@ -31,7 +31,8 @@ loop-holds c = (λ _. whole (none-made (moves _ _) _ 0), refl, refl, refl, omega
 grom-to-vdp-requires : tie.Need-grom-to-vdp-requires Inv-loop μ-loop
 grom-to-vdp-requires c κs =
     let start = c .before .before .before .before .before .before .before .before .before in
-    (c .before .before .before .before .loop .inv .1 ∙ start .pre .0, omega (arith, c .before .before .before .loop-test .taken, start .pre .1))
+    let more = c .before .before .before .loop-test .taken in
+    (c .before .before .before .before .loop .inv .1 ∙ start .pre .0, omega (arith, more, start .pre .1), omega (arith, more, start .pre .2))
 
 returns : tie.Need-returns Inv-loop μ-loop
 returns c =

@@ -18,8 +18,10 @@ move-target-requires c κs =
 
 same-length-2 : tie.Need-same-length-2
 same-length-2 c =
-    let at-move-bytes = c .before .before .before .before .before .before .before .before .before .before .before .before .before .before .before .before .before .before .before .before .before .before .before .before in
-    let at-move-source = at-move-bytes .before .before .before .before .before .before .before .before .before .before .before .before .before .before .before .before .before .before .before .before .before .before .before .before .before .before .before in
+    let at-move-bytes = c .before .before .before .before .before .before .before .before .before .before .before .before .before .before .before .before
+    .before .before .before .before .before .before .before .before in
+    let at-move-source = at-move-bytes .before .before .before .before .before .before .before .before .before .before .before .before .before .before .before
+    .before .before .before .before .before .before .before .before .before .before .before .before in
     let at-move-target = at-move-source .before .before .before .before .before .before .before .before .before .before .before .before .before .before in
     let at-source = at-move-target .before .before .before .before .before .before .before .before .before .before .before .before .before .before in
     at-move-bytes .move-bytes .kept .1 .0 ∙ at-move-source .move-source .kept .1 .0 ∙ at-move-target .move-target .kept .1 .0 ∙ at-source .source .kept .1 .0
@@ -64,7 +66,8 @@ pop-pc-requires c κs =
 
 same-length-3 : tie.Need-same-length-3
 same-length-3 c =
-    let at-move-bytes = c .before .before .before .before .before .before .before .before .before .before .before .before .before .before .before .before .before .before .before .before .before .before .before .before in
+    let at-move-bytes = c .before .before .before .before .before .before .before .before .before .before .before .before .before .before .before .before
+    .before .before .before .before .before .before .before .before in
     let at-push-pc = at-move-bytes .before .before .before .before .before .before .before .before .before .before .before .before .before .before .before in
     let at-move-source = at-push-pc .before .before .before .before .before .before .before .before .before .before .before .before in
     let at-move-target = at-move-source .before .before .before .before .before .before .before .before .before .before .before .before .before .before in
@@ -74,7 +77,8 @@ same-length-3 c =
 
 same-length-6 : tie.Need-same-length-6
 same-length-6 c =
-    let at-move-bytes = c .before .before .before .before .before .before .before .before .before .before .before .before .before .before .before .before .before .before .before .before .before .before .before .before in
+    let at-move-bytes = c .before .before .before .before .before .before .before .before .before .before .before .before .before .before .before .before
+    .before .before .before .before .before .before .before .before in
     let at-push-pc = at-move-bytes .before .before .before .before .before .before .before .before .before .before .before .before .before .before .before in
     let at-move-source = at-push-pc .before .before .before .before .before .before .before .before .before .before .before .before in
     let at-move-target = at-move-source .before .before .before .before .before .before .before .before .before .before .before .before .before .before in
@@ -84,7 +88,8 @@ same-length-6 c =
 
 same-length-7 : tie.Need-same-length-7
 same-length-7 c =
-    let at-move-bytes = c .before .before .before .before .before .before .before .before .before .before .before .before .before .before .before .before .before .before .before .before .before .before .before .before in
+    let at-move-bytes = c .before .before .before .before .before .before .before .before .before .before .before .before .before .before .before .before
+    .before .before .before .before .before .before .before .before in
     let at-push-pc = at-move-bytes .before .before .before .before .before .before .before .before .before .before .before .before .before .before .before in
     let at-move-source = at-push-pc .before .before .before .before .before .before .before .before .before .before .before .before in
     let at-move-target = at-move-source .before .before .before .before .before .before .before .before .before .before .before .before .before .before in
@@ -95,7 +100,8 @@ same-length-7 c =
 returns : tie.Need-returns
 unfolding moveRule moveLength
 returns c =
-    let at-move-bytes = c .before .before .before .before .before .before .before .before .before .before .before .before .before .before .before .before .before .before .before .before .before .before .before .before in
+    let at-move-bytes = c .before .before .before .before .before .before .before .before .before .before .before .before .before .before .before .before
+    .before .before .before .before .before .before .before .before in
     let at-move-count = at-move-bytes .before .before .before .before .before .before .before .before in
     let at-push-pc = at-move-count .before .before .before .before .before .before .before in
     let at-move-source = at-push-pc .before .before .before .before .before .before .before .before .before .before .before .before in

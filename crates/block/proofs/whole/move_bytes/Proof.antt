@@ -1,4 +1,4 @@
--- By the test for a loop of its own, by where it goes, and where it comes from; from GROM the map has no bytes.
+-- By the test for a loop of its own, by where it goes, and where it comes from; from GROM the map has no bytes, and the image has all that are moved.
 use borrow.Author.Needs.{needs}
 use lib.ListN.{length}
 use Rattle.block.proofs.Laws.{mapless, countable-grom}
@@ -10,15 +10,14 @@ grom-bytes-requires c κs =
     let at-from = c .before .before .before .before .before in
     let at-if1 = at-from .before .before .before .before .before in
     let at-straight = at-if1 .before in
-    let start = at-straight .before .before .before .before .before .before .before .before .before .before in
-    let lent = start .args in (
-      start .pre .1,
-      countable-grom (length (lent .map .now)) (length (lent .ring .now)) (lent .n)
-          (at-straight .straight .ensures) (at-if1 .if1 .taken) (at-from .from .given .1) .1,
-    )
+    let start = at-straight .before .before .before .before .before .before .before .before .before .before .before in
+    let lent = start .args in
+    let ends = countable-grom (length (lent .image .now)) (length (lent .map .now)) (length (lent .ring .now)) (lent .n)
+    (at-straight .straight .ensures) (at-if1 .if1 .taken) (at-from .from .given .1) in
+    (start .pre .1, ends .1, ends .2)
 
-same-length-16 : tie.Need-same-length-16
-same-length-16 c =
+same-length-18 : tie.Need-same-length-18
+same-length-18 c =
     let at-any-bytes = c .before .before .before .before .before .before .before .before .before .before .before .before .before .before in
     at-any-bytes .any-bytes .kept .1 .0
 
@@ -29,10 +28,10 @@ returns c =
     let at-to = at-from .before .before .before in
     let at-if1 = at-to .before .before in
     let at-straight = at-if1 .before in
-    let start = at-straight .before .before .before .before .before .before .before .before .before .before in
+    let start = at-straight .before .before .before .before .before .before .before .before .before .before .before in
     let lent = start .args in
     λ _. rw (at-to .to .given .1, at-from .from .given .1)
-    (mapless _ (countable-grom (length (lent .map .now)) (length (lent .ring .now)) (lent .n)
+    (mapless _ (countable-grom (length (lent .image .now)) (length (lent .map .now)) (length (lent .ring .now)) (lent .n)
     (at-straight .straight .ensures) (at-if1 .if1 .taken) (at-from .from .given .1) .0) (at-grom-bytes .grom-bytes .ensures _))
 
 returns-2 : tie.Need-returns-2
@@ -56,5 +55,6 @@ pub move-bytes-spec : {M : Type 1} → statement M
 move-bytes-spec =
     tie.close (tie.spec (search needs) (search needs) (search needs) grom-bytes-requires (search needs) (search needs) (search needs)
     (search needs) (search needs) returns (search needs) (search needs) (search needs) (search needs) (search needs) (search needs)
-    (search needs) returns-2 (search needs) (search needs) (search needs) (search needs) (search needs) (search needs) returns-3
-    (search needs) (search needs) same-length-16 (search needs) (search needs) (search needs) (search needs) (search needs) returns-4)
+    (search needs) (search needs) returns-2 (search needs) (search needs) (search needs) (search needs) (search needs) (search needs)
+    (search needs) returns-3 (search needs) (search needs) same-length-18 (search needs) (search needs) (search needs) (search needs)
+    (search needs) returns-4)

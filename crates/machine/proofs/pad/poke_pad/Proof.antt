@@ -6,7 +6,8 @@ use Rattle.machine.proofs.pad.poke_pad.Statement.{statement}
 use Rattle.machine.proofs.pad.poke_pad.Tie as tie
 
 returns : tie.Need-returns
-returns c = λ w. c .before .before .before .before .before .before .store .ensures (unbooked (w .rest .image) (w .rest .groups) [] (w .rest .vram) (w .rest .regs) [] (w .older) (w .place)) (w .rest .map)
+returns c = λ w. c .before .before .before .before .before .before .store .ensures (unbooked (w .rest .image) (w .rest .groups) [] (w .rest .vram) (w .rest
+    .regs) [] (w .older) (w .place)) (w .rest .map)
 
 pub poke-pad-spec : {M : Type 1} → statement M
 poke-pad-spec =

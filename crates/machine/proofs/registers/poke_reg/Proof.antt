@@ -6,7 +6,8 @@ use Rattle.machine.proofs.registers.poke_reg.Statement.{statement}
 use Rattle.machine.proofs.registers.poke_reg.Tie as tie
 
 returns : tie.Need-returns
-returns c = λ w. c .before .before .before .before .before .before .store .ensures (unbooked (w .rest .image) (w .rest .groups) (w .rest .pad) (w .rest .vram) [] [] (w .older) (w .place)) (w .rest .map)
+returns c = λ w. c .before .before .before .before .before .before .store .ensures (unbooked (w .rest .image) (w .rest .groups) (w .rest .pad) (w .rest .vram)
+    [] [] (w .older) (w .place)) (w .rest .map)
 
 pub poke-reg-spec : {M : Type 1} → statement M
 poke-reg-spec =

@@ -29,7 +29,8 @@ loop-holds c = (λ x. refl, refl, search needs, search needs, search needs, sear
 returns : tie.Need-returns Inv-loop μ-loop
 returns c =
     let at-loop = c .before .before .before .before .before in
-    λ x. unmarked-stops _ _ (booked _ _ x) (c .before .before .word-at .ensures) (c .before .before .before .before .loop-test .taken) (as-long _ _ _ (at-loop .loop .inv .2)) (marks-kind _ (c .before .kind-of .ensures) (c .if1 .taken)) ∙ at-loop .loop .inv .0 x
+    λ x. unmarked-stops _ _ (booked _ _ x) (c .before .before .word-at .ensures) (c .before .before .before .before .loop-test .taken) (as-long _ _ _ (at-loop
+    .loop .inv .2)) (marks-kind _ (c .before .kind-of .ensures) (c .if1 .taken)) ∙ at-loop .loop .inv .0 x
 
 forget-one-requires : tie.Need-forget-one-requires Inv-loop μ-loop
 forget-one-requires c κs = search needs
@@ -40,7 +41,9 @@ loop-again c =
     let at-word-at = at-kind-of .before in
     let at-loop-test = at-word-at .before .before in
     let at-loop = at-loop-test .before in (
-      λ x. unmarked-goes _ _ (booked _ _ x) (at-word-at .word-at .ensures) (at-loop-test .loop-test .taken) (as-long _ _ _ (at-loop .loop .inv .2)) (marks-other _ (at-kind-of .kind-of .ensures) (c .before .before .before .before .if1 .left)) (c .before .before .forget-one .ensures x) ∙ at-loop .loop .inv .0 x,
+      λ x. unmarked-goes _ _ (booked _ _ x) (at-word-at .word-at .ensures) (at-loop-test .loop-test .taken) (as-long _ _ _ (at-loop .loop .inv .2))
+          (marks-other _ (at-kind-of .kind-of .ensures) (c .before .before .before .before .if1 .left)) (c .before .before .forget-one .ensures x) ∙ at-loop
+          .loop .inv .0 x,
       search needs,
       search needs,
       ap (λ (m : Mem). m .ring) (c .before .before .forget-one .ensures bare) ∙ at-loop .loop .inv .3,

@@ -10,10 +10,16 @@ returns : tie.Need-returns
 returns c = (slot-plain _ _ _ _ (denied _ (c .if1 .taken)), c .before .pre)
 
 returns-2 : tie.Need-returns-2
-returns-2 c = (slot-near _ _ _ (c .before .before .before .pre) _ (c .before .within .ensures .0) _ (granted _ (c .before .before .if1 .left)) (c .if2 .taken), omega (arith, c .if2 .taken, c .before .within .ensures .1))
+returns-2 c = (
+  slot-near _ _ _ (c .before .before .before .pre) _ (c .before .within .ensures .0) _ (granted _ (c .before .before .if1 .left)) (c .if2 .taken),
+  omega (arith, c .if2 .taken, c .before .within .ensures .1),
+)
 
 returns-3 : tie.Need-returns-3
-returns-3 c = (slot-far _ _ _ (c .before .before .before .pre) _ (c .before .within .ensures .0) _ (granted _ (c .before .before .if1 .left)) (c .if2 .left), omega (arith, c .if2 .left, c .before .within .ensures .1, c .before .before .before .pre))
+returns-3 c = (
+  slot-far _ _ _ (c .before .before .before .pre) _ (c .before .within .ensures .0) _ (granted _ (c .before .before .if1 .left)) (c .if2 .left),
+  omega (arith, c .if2 .left, c .before .within .ensures .1, c .before .before .before .pre),
+)
 
 pub slot-spec : {M : Type 1} → statement M
 slot-spec =
