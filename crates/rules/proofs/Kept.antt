@@ -103,9 +103,14 @@ module _ {P : Point → Type 0} {F : Answer → Type 0} (holds : Holds P F) wher
   beside_itself (got a pc m) h = on (refl, h)
   beside_itself (stopped n m) h = off (refl, h)
 
+  first_held : {A : Type 0} (o x : Out A) → Both Itself Same o x → Held P F o
+  first_held (got a pc m) (got b pc₁ m₁) (on h) = h.1
+  first_held (stopped n m) (stopped n₁ m₁) (off h) = h.1
+  first_held (got a pc m) (stopped n m₁) h = elim h [ ]
+  first_held (stopped n m) (got b pc m₁) h = elim h [ ]
+
   alone : {A : Type 0} (o : Out A) → Both Itself Same o o → Held P F o
-  alone (got a pc m) (on h) = h.1
-  alone (stopped n m) (off h) = h.1
+  alone o h = first_held o o h
 
   keeps_itself : Keeps Itself Same
   keeps_itself =
