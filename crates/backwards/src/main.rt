@@ -1,4 +1,6 @@
 // Walks backwards: a cartridge runs into an instruction that fails, and is then stepped back to its start, with pc and viewed cells at each step.
+#![tactic(auto)]
+
 use bench::at::At;
 use bench::viewer::Memory;
 use lines::parts::Part;

@@ -1,4 +1,6 @@
 // The public calls: step, run, step_back, tick and view.
+#![tactic(auto)]
+
 pub mod at;
 pub mod fits;
 pub mod runs;

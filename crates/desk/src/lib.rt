@@ -1,4 +1,6 @@
 // The machine on the desk: lines found in what was read, each obeyed as it comes, and what a run prints.
+#![tactic(auto)]
+
 pub mod input;
 pub mod obey;
 pub mod show;

@@ -1,5 +1,7 @@
 // Dumps: each file that an argument names, as the rig's operator is shown it; and what that can't show, images of other lengths, and writing.
-use hex::dump::{read_hex, write_hex};
+#![tactic(auto)]
+
+use intelhex::dump::{read_hex, write_hex};
 
 fn show_file(path: &[u8]) {
     io::write_all(1, path);

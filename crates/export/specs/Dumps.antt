@@ -3,8 +3,8 @@ use Rattle.std.specs.Prelude.{ℕ}
 use Rattle.std.specs.Borrow.{Bor}
 use denote.Triple.Both.{Both}
 use Rattle.lines.specs.Shown.{Lent}
-use Rattle.hex.specs.Dump.{told, wrote}
-use Rattle.hex.specs.Meaning.{Reads, Writes}
+use Rattle.intelhex.specs.Dump.{told, wrote}
+use Rattle.intelhex.specs.Meaning.{Reads, Writes}
 
 -- a number that is lent: before the call and after it
 abbrev pub Number : Type 0

@@ -6,7 +6,7 @@ ghost use Rattle.export.specs.Dumps.{ReadsIn, WritesIn};
 pub extern "C" fn argolythe_read_hex(text: &[u8], image: &mut [u8], line: &mut usize) -> u8
     ensures { ReadsIn text image line result }
 {
-    let r = hex::dump::read_hex(text, image);
+    let r = intelhex::dump::read_hex(text, image);
     *line = r.line;
     r.answer
 }
@@ -16,7 +16,7 @@ pub extern "C" fn argolythe_read_hex(text: &[u8], image: &mut [u8], line: &mut u
 pub extern "C" fn argolythe_write_hex(image: &[u8], out: &mut [u8], count: &mut usize) -> u8
     ensures { WritesIn image out count result }
 {
-    let w = hex::dump::write_hex(image, out);
+    let w = intelhex::dump::write_hex(image, out);
     *count = w.count;
     w.answer
 }

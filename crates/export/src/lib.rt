@@ -1,4 +1,6 @@
 // The public calls for C and Rust. Nothing is asked of a caller but what the types say.
+#![tactic(auto)]
+
 pub mod dump;
 pub mod mapped;
 pub mod ticks;

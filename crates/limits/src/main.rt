@@ -1,5 +1,7 @@
 // What the program can't show: images of one group and of eight, parts of a wrong length, a journal with no room, steps back, groups that may be
 // written, and journals that are rings.
+#![tactic(auto)]
+
 mod backs;
 mod grams;
 mod rings;

@@ -1,4 +1,6 @@
 // The program on each file that an argument names: its name, and what the program prints.
+#![tactic(auto)]
+
 fn obey_file(path: &[u8]) {
     io::write_all(1, path);
     io::write_all(1, b"\n");

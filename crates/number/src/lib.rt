@@ -1,4 +1,6 @@
 // Bytes and words: pure functions, each by its rule.
+#![tactic(auto)]
+
 pub mod addresses;
 pub mod bits;
 pub mod coincidence;

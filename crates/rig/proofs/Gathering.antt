@@ -18,9 +18,9 @@ use Rattle.desk.specs.Desk.{line_feed, onto, cut, heard, says}
 use Rattle.desk.proofs.Cut.{first_cut}
 use Rattle.rig.specs.Meaning.{Took, Gathers}
 use borrow.Author.Tests.{eq-eqb, ne_eqb}
-use Rattle.hex.specs.Dump.{groups, zeros, text_of, wrote, write_answer, write_out}
-use Rattle.hex.specs.declared.dump.Written.{Written}
-use Rattle.hex.proofs.Promises.{the_text}
+use Rattle.intelhex.specs.Dump.{groups, zeros, text_of, wrote, write_answer, write_out}
+use Rattle.intelhex.specs.declared.dump.Written.{Written}
+use Rattle.intelhex.proofs.Promises.{the_text}
 use Rattle.rig.specs.Rig.{placed, gathered, first_bad, dumped}
 
 -- ---- the line at a place

@@ -10,8 +10,8 @@ use lib.Seq.{drop-drop}
 use Rattle.lines.specs.Shown.{Puts, Front}
 use Rattle.lines.proofs.Printing.{Owes, less}
 use borrow.Author.Tests.{eq-eqb, ne_eqb}
-use Rattle.hex.specs.Dump.{idle, groups, read_answer, read_image}
-use Rattle.hex.specs.declared.dump.Read.{Read}
+use Rattle.intelhex.specs.Dump.{idle, groups, read_answer, read_image}
+use Rattle.intelhex.specs.declared.dump.Read.{Read}
 use Rattle.rig.specs.Rig.{grom_line, grom_lines, refusal, shown}
 
 -- those that are left from the k-th row on

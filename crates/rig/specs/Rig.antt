@@ -4,7 +4,7 @@ use Rattle.lines.specs.Ascii.{ascii}
 use Rattle.lines.specs.Digits.{laid, show_decimal, show_hex}
 use Rattle.lines.specs.Lines.{Line, sets, jumps, runs, bad, grom, pad, vdp, reg, size, tab, opening}
 use Rattle.lines.specs.Shown.{feed, bad_line}
-use Rattle.hex.specs.Dump.{idle, zeros, read_answer, image_of, show_bytes, text_of}
+use Rattle.intelhex.specs.Dump.{idle, zeros, read_answer, image_of, show_bytes, text_of}
 use Rattle.desk.specs.Desk.{cut, heard, says}
 
 -- ---- a dump, shown

@@ -6,8 +6,8 @@ ghost use Rattle.rig.specs.Meaning.{Took, Gathers};
 ghost use Rattle.rig.specs.Rig;
 
 use desk::obey::line_of;
-use hex::dump::write_hex;
-use hex::flags::clear;
+use intelhex::dump::write_hex;
+use intelhex::flags::clear;
 use lines::print::put_bad;
 use lines::read::{Line, set_bytes};
 

@@ -3,9 +3,9 @@ ghost use Rattle.std.specs.Prelude.{◌≡◌, ◌+◌, ◌≤◌, ◌<◌, leng
 ghost use Rattle.lines.specs.Shown.{Prints, Front};
 ghost use Rattle.rig.specs.Rig;
 
-use hex::dump::read_hex;
-use hex::flags::idle;
-use hex::rows::put_pairs;
+use intelhex::dump::read_hex;
+use intelhex::flags::idle;
+use intelhex::rows::put_pairs;
 use lines::print::{put_decimal, put_digits, put_word};
 
 // The line for 16 bytes at an address.

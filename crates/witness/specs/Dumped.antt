@@ -1,7 +1,7 @@
 -- What a host in C may demand of a dump: all that comes out, in the words of the format.
 use Rattle.std.specs.Prelude.{◌≡◌, ℕ, length}
 use Rattle.lines.specs.Shown.{Lent}
-use Rattle.hex.specs.Dump.{told, wrote, read_answer, read_image, write_answer, write_out}
+use Rattle.intelhex.specs.Dump.{told, wrote, read_answer, read_image, write_answer, write_out}
 use Rattle.export.specs.Dumps.{Number}
 
 abbrev pub ReadAs : Lent → Lent → Number → ℕ → Type 0

@@ -1,5 +1,7 @@
 // The demands, held by the calls themselves: each function is a call of bench, or a few in a row, and what it ensures is a demand.
 // Nothing is known here of a call but its contract, so one that says less breaks this crate.
+#![tactic(auto)]
+
 pub mod dumps;
 pub mod hosts;
 pub mod who;

@@ -6,7 +6,7 @@ use lib.ListN.{length}
 use borrow.Author.Rules.{rules}
 use borrow.Author.Tests.{not-true, not-false}
 use Rattle.lines.proofs.Printing.{Owes, paid}
-use Rattle.hex.proofs.Writing.{sixteen}
+use Rattle.intelhex.proofs.Writing.{sixteen}
 use Rattle.rig.specs.Rig.{grom_lines}
 use Rattle.rig.proofs.Showing.{left, pass, pay, all_shown}
 use Rattle.rig.proofs.show.put_image.Statement.{statement}

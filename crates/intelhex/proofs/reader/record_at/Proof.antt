@@ -1,0 +1,189 @@
+-- A walk of its MIR, by hand. The `Reader` that one call returns is held in a local and passed to the next.
+-- The machine value that `new` returns is stored and passed on as it is. In a local of a body MIR erases the lifetime of the struct's type, so the value is shown to have the type at `erased`: what the struct owns does not say the lifetime's name.
+-- Assumes nothing.
+use mathlib.Core.Path.{◌≡◌, refl, subst}
+use Prim.Native.Nat.{ℕ, ◌<◌, ◌^◌}
+use mathlib.Core.List.{List, [], ◌∷◌}
+use lib.ListN.{length}
+use seplogic.Ra.Ura.{Ura}
+use mir.Syntax.{named, erased, w64}
+use mir.Val.{Val, vint}
+use base.Logic.{SProp, ent, sep, emp, via, fst∗, snd∗, ex_e, id⊢}
+use base.Fml.{Lft, Share, Fml, ftrue, flft}
+use prog.Memory.{Memory}
+use prog.Routine.{Routine}
+use prog.Wp.{Calls, Loops, WpFn, Tables}
+use types.Logic.{Logic, sem}
+use contract.Lifetimes.{Lfts}
+use contract.Monad.{Fun, fact}
+use contract.Running.{tables, tables_of}
+use types.Kit.{‵, raw, ◌⊛◌, ⋆, some, later, ◌$◌, ◌∵◌, !, qed, by, move, use1, use2, split, join, pick, fsplit, fjoin, suffices, frame, await, done}
+use types.Run.{look, init, forget, stop, from, load, and_then, no_more, land, returns, enter, alloc1, alloc0, params1, pass1, pass0, free1, free0}
+use sound.WpLaws.{FmC, fm_of, WpFn-mono}
+use denote.RattleType.{RattleType, owns}
+use denote.Laws.{Is, shows}
+use denote.Builtin.{u8, usize}
+use denote.Plain.{uint_vals, uint_Tells, uint_Makes}
+use denote.Ref.{Bor, NamedLft}
+use denote.Signature.{plain, named_lft}
+use denote.Slice.{slice_val, ShrSlice, shr_slice_vals, shr_slice_Tells, shr_slice_Lawful, shr_slice_copy}
+use denote.Steps.{owned, peeks, heard, nothing}
+use denote.Struct.Laws as LL
+use denote.Triple.Statement.{Contract, Triple}
+use denote.Triple.Call.{calls_at}
+use denote.Triple.Entry.{Vals, on_entry}
+use denote.Triple.Spec.{Meets, triple_of}
+use denote.Triple.Table.{entered, cited}
+use denote.Triple.Walked.{says, Stays, stay_none, stay_none_slice, walk_of, Goes-none, Goes-none_slice, Walks, ends_at, walked, walk_Meets}
+use denote.Exit.{yes}
+use denote.Triple.Clauses.{ensured, lasts}
+use Rattle.intelhex.specs.Meaning.{Next}
+use Rattle.intelhex.specs.declared.reader.Reader.{Reader}
+use Rattle.intelhex.specs.declared.line.Line.{Line}
+use Rattle.intelhex.specs.contracts.reader.Reader as T
+use Rattle.intelhex.proofs.reader.Reader.TheLaws as T'
+use Rattle.intelhex.specs.contracts.line.Line as S
+use Rattle.intelhex.proofs.line.Line.TheLaws as S'
+use Rattle.intelhex.specs.contracts.reader.place as place
+use Rattle.intelhex.proofs.reader.place.Symbol as new-def
+use Rattle.intelhex.proofs.reader.place.Symbol.{name as #hex·place}
+use Rattle.intelhex.proofs.reader.place.Met as new-thm
+use Rattle.intelhex.specs.contracts.reader.next_record as nextrec
+use Rattle.intelhex.proofs.reader.next_record.Symbol as next-def
+use Rattle.intelhex.proofs.reader.next_record.Symbol.{name as #hex·next-record}
+use Rattle.intelhex.proofs.reader.next_record.Met as next-thm
+use Rattle.intelhex.specs.contracts.reader.record_at.Key.{name as #hex·record-at}
+use Rattle.intelhex.specs.contracts.reader.record_at as recat
+use Rattle.intelhex.proofs.reader.record_at.Statement as stated
+use Rattle.intelhex.proofs.reader.record_at.Code as code
+
+-- the struct's type, over the signature's lifetimes
+abbrev B : Lfts 1 → RattleType
+B κs = T.the_row (named_lft 1 0 tt κs)
+
+abbrev stayed : Stays (recat.ended).signature.params (recat.ended).kept
+stayed = (stay_none_slice (0 ∷ []) tt (plain (λ _. u8)) yes, (stay_none (λ _. usize) yes, tt))
+
+module _ {M : Type 1} {𝓤 : Ura M} (𝓛 : Logic 𝓤) (mem : Memory → SProp 𝓤) (run : Routine → Fun 𝓤) where
+  -- the contracts that the proof cites
+  abbrev Place : Contract 𝓤
+  Place = triple_of 𝓛 place.signature (place.spec 𝓛 mem run)
+
+  abbrev NextRec : Contract 𝓤
+  NextRec = triple_of 𝓛 nextrec.signature (nextrec.spec 𝓛 mem run)
+
+-- of a reader that was made of the text and the place
+told : {s : Bor (List ℕ)} {n : ℕ} (r : Reader) (t : Line) → r.text ≡ s → r.at ≡ n → Next r.text.now r.at t → Next s.now n t
+told {s = s} r t e f h = subst (λ (k : ℕ). Next s.now k t) f (subst (λ (x : Bor (List ℕ)). Next x.now r.at t) e h)
+
+module _ {M : Type 1} {𝓤 : Ura M} (𝓛 : Logic 𝓤) (mem : Memory → SProp 𝓤) (run : Routine → Fun 𝓤) (κ : Lft) (q : Share) (s : Bor
+    (List ℕ)) (n : ℕ) (ok : n < 2 ^ 64) where
+  -- the machine value that s has
+  open 𝓛 use {H}
+
+  abbrev v : Val
+  v = slice_val s.ref_ptr (length s.now)
+
+  abbrev at : Vals recat.signature (κ, tt)
+  at = (v ∷ [], (vint w64 n ∷ [], tt))
+
+  -- what is known of the result
+  abbrev Known : Line → Type 0
+  Known t = Next s.now n t
+
+  -- the struct's type as a local of a body has it
+  abbrev αᵉ : NamedLft
+  αᵉ = record { mir = erased; lft = κ }
+
+  abbrev Post : Val → SProp 𝓤
+  Post = (walk_of 𝓛 recat.ended stayed (recat.clauses 𝓛 mem run)).post (((κ, tt), (q, tt), tt, (s, (n, tt)), at), tt)
+
+  abbrev Own : Fml
+  Own = (ShrSlice (named 0) κ u8).own_val s (v ∷ [])
+
+  -- the call of `new`: what it is passed, what it asks, and what is known of its result
+  abbrev to_new : (Place 𝓛 mem run).Ghost
+  to_new = (((κ, tt), (q, tt), tt, (s, (n, tt)), at), tt)
+
+  goes_new : ent 𝓤 (on_entry 𝓛 recat.signature (κ, tt) (q, tt) (s, (n, tt)) at) (sep 𝓤 ((Place 𝓛 mem run).pre to_new) (sem 𝓛 Own))
+  goes_new =
+      qed 𝓛 ((‵ (flft κ q) ⊛ ‵ ftrue) ∷ ‵ (owns (ShrSlice (named 0) κ u8 ∷ usize ∷ []) (s, (n, tt)) at) ∷ []) ∵
+      move ! (1 ∷ []) $ fsplit ! $ use1 𝓛 (‵ Own ⊛ ‵ Own) ((shr_slice_copy 𝓛 (named 0) κ u8).twice s (v ∷ [])) $ split ! $
+      move ! (0 ∷ 2 ∷ []) $ fjoin ! $ move ! (2 ∷ 0 ∷ []) $ use2 𝓛 (raw ((Place 𝓛 mem run).pre to_new)) (qed 𝓛 ((‵ (flft κ q) ⊛ ‵ ftrue) ∷ ‵ (owns (ShrSlice
+      (named 0) κ u8 ∷ usize ∷ []) (s, (n, tt)) at) ∷ []) ∵ join ! $ frame ! $ done !) $ frame ! $ done !
+
+  new_said : (r : Reader) → ent 𝓤 (ensured 𝓛 place.ended (place.clauses 𝓛 mem run) (κ, tt) (s, (n, tt)) tt r) (fact 𝓤 ((r.text ≡ s) × (r.at ≡ n)))
+  new_said r = ex_e 𝓤 _ (λ ws. snd∗ 𝓤 (sem 𝓛 (lasts place.ended (κ, tt) (s, (n, tt)) ws)) (fact 𝓤 ((r.text ≡ s) × (r.at ≡ n))))
+
+  -- the call of `next`, at the struct r with the machine value u
+  abbrev to_next : Reader → Val → (NextRec 𝓛 mem run).Ghost
+  to_next r u = (((κ, tt), (q, tt), tt, (r, tt), (u ∷ [], tt)), tt)
+
+  goes_next : (r : Reader) (u : Val) → ent 𝓤 (⋆ 𝓛 (‵ ((B (κ, tt)).own r (u ∷ [])) ∷ (‵ (flft κ q) ⊛ ‵ ftrue) ∷ [])) ((NextRec 𝓛 mem run).pre (to_next r u))
+  goes_next r u = qed 𝓛 (‵ ((B (κ, tt)).own r (u ∷ [])) ∷ (‵ (flft κ q) ⊛ ‵ ftrue) ∷ []) ∵ nothing ! $ move ! (1 ∷ 0 ∷ []) $ fjoin ! $ move ! (1 ∷ 0 ∷ []) $ join ! $ frame ! $ done !
+
+  next_said : (r : Reader) (t : Line) → ent 𝓤 (ensured 𝓛 nextrec.ended (nextrec.clauses 𝓛 mem run) (κ, tt) (r, tt) tt t) (fact 𝓤 (Next r.text.now r.at t))
+  next_said r t = ex_e 𝓤 _ (λ ws. snd∗ 𝓤 (sem 𝓛 (lasts nextrec.ended (κ, tt) (r, tt) ws)) (fact 𝓤 (Next r.text.now r.at t)))
+
+  exits : (t : Line) (u : Val) → Known t → ent 𝓤 (⋆ 𝓛 (‵ ((S.the_row).own_val t (u ∷ [])) ∷ (‵ (flft κ q) ⊛ ‵ ftrue) ∷ ‵ Own ∷ [])) (Post u)
+  exits t u e =
+      qed 𝓛 (‵ ((S.the_row).own_val t (u ∷ [])) ∷ (‵ (flft κ q) ⊛ ‵ ftrue) ∷ ‵ Own ∷ []) ∵
+      suffices ! _ (ends_at 𝓛 recat.ended stayed (recat.clauses 𝓛 mem run) (((κ, tt), (q, tt), tt, (s, (n, tt)), at), tt) u t (tt, (tt, tt)) (tt, (tt, tt))) $ says ! e $
+      move ! (1 ∷ []) $ frame ! $ nothing ! $ owned ! usize (Is usize) (uint_Makes 𝓛 w64) n _ (refl, ok) $ fjoin ! $ move ! (2 ∷ 0 ∷ []) $ fjoin ! $ frame ! $ done !
+
+  module _ (C : Calls 𝓤 H) (Λ : Loops 𝓤 H) (fm : FmC 𝓤 H 𝓛.laws C) (known-new : Triple 𝓤 (C #hex·place) (Place 𝓛 mem run)) (known_next : Triple 𝓤 (C
+      #hex·next-record) (NextRec 𝓛 mem run)) where
+    walk : Is (ShrSlice (named 0) κ u8) s (v ∷ []) → ent 𝓤 (on_entry 𝓛 recat.signature (κ, tt) (q, tt) (s, (n, tt)) at) (WpFn 𝓤 H C Λ code.function (v ∷ vint w64 n ∷ []) Post)
+    walk p =
+        qed 𝓛 (raw (on_entry 𝓛 recat.signature (κ, tt) (q, tt) (s, (n, tt)) at) ∷ []) ∵ enter ! C Λ code.function (v ∷ vint w64 n ∷ []) _ $
+        alloc1 ! (λ l₀. alloc1 ! (λ l₁. alloc1 ! (λ l₂. alloc1 ! (λ l₃. alloc0 ! $ params1 ! $ pass1 ! (init ! 4 refl ((shr_slice_Lawful 𝓛 (named 0) κ u8
+        ).typed s (v ∷ []) p).0) $ pass1 ! (init ! 2 refl (tt, record { fits = ok })) $ pass0 ! $
+        move ! (8 ∷ []) $ use1 𝓛 (raw ((Place 𝓛 mem run).pre to_new) ⊛ ‵ Own) goes_new $ split ! $
+        calls_at ! fm (Place 𝓛 mem run) known-new to_new (and_then ! (load ! (from ! (stop !)) (look ! 6 refl)) (and_then ! (load ! (from ! (stop !)) (look ! 4 refl)) (no_more !))) (λ u.
+        use1 𝓛 (later (some (λ (r : Reader). ((‵ (flft κ q) ⊛ ‵ ftrue) ⊛ ‵ ((B (κ, tt)).own r (u ∷ []))) ⊛ raw (ensured 𝓛 place.ended (place.clauses 𝓛
+        mem run) (κ, tt) (s, (n, tt)) tt r)))) (id⊢ 𝓤 _) $ await ! tt $ pick ! (λ r.
+        split ! $ move ! (1 ∷ []) $ use1 𝓛 (raw (fact 𝓤 ((r.text ≡ s) × (r.at ≡ n)))) (new_said r) $ heard ! ((r.text ≡ s) × (r.at ≡ n)) (λ e. split ! $ move ! (1 ∷ []) $
+        -- [what the struct owns; the token; what s owns; room for _3; …; _2; …; _1; …; room for _0; …]
+        peeks ! (B (κ, tt)) (Is (B (κ, tt))) (shows 𝓛 (B (κ, tt))) r (u ∷ []) (λ is.
+        land ! (from ! (stop !)) (init ! 3 refl ((LL.lawful (T.the_type αᵉ) (T'.the_laws αᵉ) 𝓛).typed r _ is).0) $
+        use2 𝓛 (raw ((NextRec 𝓛 mem run).pre (to_next r u))) (goes_next r u) $
+        calls_at ! fm (NextRec 𝓛 mem run) known_next (to_next r u) (and_then ! (load ! (from ! (stop !)) (look ! 2 refl)) (no_more !)) (λ u'.
+        use1 𝓛 (later (some (λ (t : Line). ((‵ (flft κ q) ⊛ ‵ ftrue) ⊛ ‵ ((S.the_row).own_val t (u' ∷ []))) ⊛ raw (ensured 𝓛 nextrec.ended (nextrec.clauses 𝓛
+        mem run) (κ, tt) (r, tt) tt t)))) (id⊢ 𝓤 _) $ await ! tt $ pick ! (λ t.
+        split ! $ move ! (1 ∷ []) $ use1 𝓛 (raw (fact 𝓤 (Next r.text.now r.at t))) (next_said r t) $ heard ! (Next r.text.now r.at t) (λ e'. split ! $ move ! (1 ∷ []) $
+        -- [the result; the token; what s owns; _3; …; _2; …; _1; …; room for _0; …]
+        peeks ! S.the_row (Is S.the_row) (shows 𝓛 S.the_row) t (u' ∷ []) (λ is'.
+        land ! (from ! (stop !)) (init ! 9 refl ((LL.lawful S.the_type S'.the_laws 𝓛).typed t _ is').0) $
+        returns ! (look ! 9 refl) $ forget ! 3 refl $ forget ! 5 refl $ forget ! 7 refl $ forget ! 9 refl $ move ! (9 ∷ 10 ∷ []) $ free1 ! $ move ! (7 ∷ 8 ∷
+        []) $ free1 ! $ move ! (5 ∷ 6 ∷ []) $ free1 ! $ move ! (3 ∷ 4 ∷ []) $ free1 ! $ free0 ! $
+        by ! (exits t u' (told r t e.0 e.1 e'))))))))))))))
+
+module _ {M : Type 1} {𝓤 : Ura M} (𝓛 : Logic 𝓤) (mem : Memory → SProp 𝓤) (run : Routine → Fun 𝓤) where
+  open 𝓛 use {H}
+
+  record-at-walks : (C : Calls 𝓤 H) (Λ : Loops 𝓤 H) → FmC 𝓤 H 𝓛.laws C → Triple 𝓤 (C #hex·place) (Place 𝓛 mem run) → Triple 𝓤 (C #hex·next-record) (NextRec 𝓛 mem run)
+      → Walks 𝓛 recat.ended stayed (WpFn 𝓤 H C Λ code.function) (recat.clauses 𝓛 mem run)
+  record-at-walks C Λ fm known-new known_next = walked 𝓛 recat.ended stayed (recat.clauses 𝓛 mem run) (WpFn 𝓤 H C Λ code.function) (λ κs. (
+    shr_slice_vals,
+    (uint_vals w64, tt),
+  )) (λ κs. (shr_slice_Tells (named 0) κs.0 u8, (uint_Tells w64, tt)))
+      (λ κs qs bounds a g are. via 𝓤 _ (fst∗ 𝓤 _ (emp 𝓤)) (walk 𝓛 mem run κs.0 qs.0 a.0 a.1.0 are.1.0.1 C Λ fm known-new known_next are.0))
+
+record-at-meets : {M : Type 1} {𝓤 : Ura M} (𝓛 : Logic 𝓤) (mem : Memory → SProp 𝓤) (run : Routine → Fun 𝓤) (𝓣 : Tables 𝓤 𝓛.H)
+    → Triple 𝓤 (𝓣.C #hex·place) (Place 𝓛 mem run) → Triple 𝓤 (𝓣.C #hex·next-record) (NextRec 𝓛 mem run)
+    → Meets 𝓛 recat.signature (WpFn 𝓤 𝓛.H 𝓣.C 𝓣.Λ code.function) (recat.spec 𝓛 mem run)
+record-at-meets {𝓤 = 𝓤} 𝓛 mem run 𝓣 known-new known_next = walk_Meets 𝓛 recat.ended stayed (
+  Goes-none_slice 𝓛 1 (0 ∷ []) tt (plain (λ _. u8)) yes,
+  (Goes-none 𝓛 1 (λ _. usize) yes (λ κs x f. refl), tt),
+) (recat.clauses 𝓛 mem run) (WpFn 𝓤 𝓛.H 𝓣.C 𝓣.Λ code.function) (WpFn-mono 𝓤 𝓛.H 𝓛.laws
+    𝓣 code.function)
+    (record-at-walks 𝓛 mem run 𝓣.C 𝓣.Λ (fm_of 𝓤 𝓛.H 𝓛.laws 𝓣) known-new known_next)
+
+pub record-at-spec : {M : Type 1} → stated.statement M
+unfolding code.routine tables_of
+record-at-spec 𝓤 𝓛 𝓜 𝓡 =
+    entered 𝓤 𝓛.H (triple_of 𝓛 recat.signature (recat.spec 𝓛 𝓜.mem 𝓡.run))
+    (tables 𝓤 𝓛.H 𝓜 𝓡 code.env).C (tables 𝓤 𝓛.H 𝓜 𝓡 code.env).Λ #hex·record-at code.function (code.unfolded 𝓤 𝓛.H 𝓜 𝓡)
+    (record-at-meets 𝓛 𝓜.mem 𝓡.run (tables_of 𝓤 𝓛.H 𝓜 (tables 𝓤 𝓛.H 𝓜 𝓡 code.env))
+    (cited 𝓤 𝓛.H (Place 𝓛 𝓜.mem 𝓡.run) 𝓜 𝓡 code.env #hex·place new-def.routine code.calls-intelhex::reader::place (new-thm.met 𝓤 𝓛 𝓜 𝓡))
+    (cited 𝓤 𝓛.H (NextRec 𝓛 𝓜.mem 𝓡.run) 𝓜 𝓡 code.env #hex·next-record next-def.routine code.calls-intelhex::reader::next-record (next-thm.met 𝓤 𝓛 𝓜 𝓡)))
