@@ -10,7 +10,7 @@ ghost use Rattle.block.specs.Meaning.{target_of, origin_of};
 use machine::state::Now;
 use operand::places::Place;
 
-#[derive(Drop)]
+#[derive(Clone, Copy)]
 pub enum Target {
     Pad(u16),
     Video(u16),
@@ -18,7 +18,7 @@ pub enum Target {
     Gram(u16),
 }
 
-#[derive(Drop)]
+#[derive(Clone, Copy)]
 pub enum Origin {
     Grom(u16),
     Cpu(u16),
@@ -26,13 +26,13 @@ pub enum Origin {
 }
 
 // An end, beside the state that goes on.
-#[derive(Drop)]
+#[derive(Clone, Copy)]
 pub struct Aimed {
     pub now: Now,
     pub target: Target,
 }
 
-#[derive(Drop)]
+#[derive(Clone, Copy)]
 pub struct Drawn {
     pub now: Now,
     pub origin: Origin,

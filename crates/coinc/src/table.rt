@@ -8,7 +8,7 @@ use machine::state::Now;
 use number::{coincidence, words};
 
 // Whether the objects meet, beside the state that goes on.
-#[derive(Drop)]
+#[derive(Clone, Copy)]
 pub struct Meeting {
     pub now: Now,
     pub met: bool,

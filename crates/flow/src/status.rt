@@ -9,7 +9,7 @@ use machine::cells;
 use machine::state::Now;
 
 // H, GT, CARRY, OVF: by the status bit that they test.
-#[derive(Drop)]
+#[derive(Clone, Copy)]
 pub enum Test {
     High,
     Greater,

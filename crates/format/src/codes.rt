@@ -15,7 +15,7 @@ use machine::state::Now;
 const MOST_CODES: u16 = 16384;
 
 // Where a format string stands after a code: going on with a bias and so many blocks not yet closed, or at its end.
-#[derive(Drop)]
+#[derive(Clone, Copy)]
 pub struct Turn {
     pub now: Now,
     pub going: bool,

@@ -10,7 +10,7 @@ use crate::state::Now;
 use crate::{cells, grom, state};
 use ring::book;
 
-#[derive(Drop)]
+#[derive(Clone, Copy)]
 pub enum Memory {
     Cpu,
     Vdp,

@@ -9,7 +9,7 @@ use crate::list;
 use machine::state::Now;
 
 // What a block leaves: the address and the source of the one after it, how many ticks on that is due, and how many bytes were sent.
-#[derive(Drop)]
+#[derive(Clone, Copy)]
 pub struct Next {
     pub now: Now,
     pub list: u16,

@@ -9,7 +9,7 @@ use machine::state;
 use machine::state::Now;
 
 // The state, and how many bytes of the output are in use.
-#[derive(Drop)]
+#[derive(Clone, Copy)]
 pub struct Sent {
     pub now: Now,
     pub count: usize,

@@ -11,7 +11,7 @@ use machine::state::Now;
 use operand::places::Place;
 
 // The state, and the source flag.
-#[derive(Drop)]
+#[derive(Clone, Copy)]
 pub struct Started {
     pub now: Now,
     pub source: bool,

@@ -10,7 +10,7 @@ use machine::state::Now;
 use operand::stacks;
 
 // What a tick leaves: the state, the source flag, and how many bytes were sent.
-#[derive(Drop)]
+#[derive(Clone, Copy)]
 pub struct Ticked {
     pub now: Now,
     pub source: bool,
