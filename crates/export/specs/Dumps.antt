@@ -1,6 +1,6 @@
 -- How a caller in C reads what a dump's calls hand back: the answer, and a number beside it.
 use Rattle.std.specs.Prelude.{ℕ}
-use Rattle.std.specs.Borrow.{Bor}
+use Rattle.std.specs.Borrow.{Bor, MutBor}
 use denote.Triple.Both.{Both}
 use Rattle.lines.specs.Shown.{Lent}
 use Rattle.intelhex.specs.Dump.{told, wrote}
@@ -8,7 +8,7 @@ use Rattle.intelhex.specs.Meaning.{Reads, Writes}
 
 -- a number that is lent: before the call and after it
 abbrev pub Number : Type 0
-Number = Both (Bor ℕ) (Bor ℕ)
+Number = Both (MutBor ℕ) (MutBor ℕ)
 
 -- the answer and `line` are those of the rules
 abbrev pub ReadsIn : Lent → Lent → Number → ℕ → Type 0

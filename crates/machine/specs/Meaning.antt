@@ -1,6 +1,6 @@
 -- What the code's values say, in the words of the rules.
 use Rattle.std.specs.Prelude.{◌≡◌, List, [], Bool, true, false, ℕ, ◌/◌, ◌<◌, eqb, length, set}
-use Rattle.std.specs.Borrow.{Bor}
+use Rattle.std.specs.Borrow.{Bor, MutBor}
 use denote.Triple.Both.{Both}
 use Rattle.rules.specs.Machine.{pick, bit, Kind, cpu, vdp, register, grom, upon, group, size, reach, area_of, flagged, Mem, mem}
 use Rattle.rules.specs.Rules.{Rule, Deed, Out, got, stopped, then, after, valued, peek, poke}
@@ -109,7 +109,11 @@ kept_by u n = record { pc = n.pc; used = u; answer = n.answer; address = n.addre
 
 -- a slice that is lent: before the call and after it
 abbrev pub Lent : Type 0
-Lent = Both (Bor (List ℕ)) (Bor (List ℕ))
+Lent = Both (MutBor (List ℕ)) (MutBor (List ℕ))
+
+-- a slice that is lent to be read alone
+abbrev pub SeenLent : Type 0
+SeenLent = Both (Bor (List ℕ)) (Bor (List ℕ))
 
 -- a part of the machine, as a function has it: lent; or out of its sight, and so any list at all, which stays
 pub data Part : Type 0 where
@@ -176,6 +180,28 @@ Journal s l = journal_from s.entry.now s.exit.now l
 -- the ring beside it, which a plain journal has not: an empty one is lent
 abbrev pub Ring : Lent → Parts → Parts
 Ring s l = ring_from s.entry.now s.exit.now l
+
+-- the same of slices that are read alone
+abbrev pub SeenImage : SeenLent → Parts → Parts
+SeenImage s l = image_from s.entry.now s.exit.now l
+
+abbrev pub SeenMap : SeenLent → Parts → Parts
+SeenMap s l = map_from s.entry.now s.exit.now l
+
+abbrev pub SeenPad : SeenLent → Parts → Parts
+SeenPad s l = pad_from s.entry.now s.exit.now l
+
+abbrev pub SeenVram : SeenLent → Parts → Parts
+SeenVram s l = vram_from s.entry.now s.exit.now l
+
+abbrev pub SeenRegs : SeenLent → Parts → Parts
+SeenRegs s l = regs_from s.entry.now s.exit.now l
+
+abbrev pub SeenJournal : SeenLent → Parts → Parts
+SeenJournal s l = journal_from s.entry.now s.exit.now l
+
+abbrev pub SeenRing : SeenLent → Parts → Parts
+SeenRing s l = ring_from s.entry.now s.exit.now l
 
 abbrev pub Groups : ℕ → Parts → Parts
 Groups w l = record { image = l.image; map = l.map; groups = named w; pad = l.pad; vram = l.vram; regs = l.regs; journal = l.journal; ring = l.ring }
@@ -285,14 +311,14 @@ abbrev pub Became : (Mem → Mem) → (Parts → Parts) → Book → Book → Ty
 Became g f b c = (rest : Rest (f unmapped)) → mem_after (f unmapped) rest c ≡ g (mem_before (f unmapped) rest b)
 
 -- the lengths of what is lent
-abbrev pub IsPad : Bor (List ℕ) → Type 0
-IsPad s = length s.now ≡ size cpu
+abbrev pub IsPad : List ℕ → Type 0
+IsPad s = length s ≡ size cpu
 
-abbrev pub IsVram : Bor (List ℕ) → Type 0
-IsVram s = length s.now ≡ size vdp
+abbrev pub IsVram : List ℕ → Type 0
+IsVram s = length s ≡ size vdp
 
-abbrev pub IsRegs : Bor (List ℕ) → Type 0
-IsRegs s = length s.now ≡ size register
+abbrev pub IsRegs : List ℕ → Type 0
+IsRegs s = length s ≡ size register
 
 -- ---- one memory, whichever it is
 
@@ -309,8 +335,8 @@ HasCells Vdp n = n ≡ size vdp
 HasCells Register n = n ≡ size register
 HasCells (Grom w) n = Unit {0}
 
-abbrev pub IsOf : Memory → Bor (List ℕ) → Type 0
-IsOf k s = HasCells k (length s.now)
+abbrev pub IsOf : Memory → List ℕ → Type 0
+IsOf k s = HasCells k (length s)
 
 -- any but the image, whose bytes are read by the map
 abbrev pub IsRam : Memory → Type 0
