@@ -380,7 +380,7 @@ with k c s m =
     (upon (kind_of k) m.vram c m.vram m.vram) (upon (kind_of k) m.regs m.regs c m.regs) s
 
 -- a byte is loaded from one of its cells: in any machine that has these, by any ring, whatever its map is
-abbrev pub Loads : Memory → ℕ → Lent → Now → Now → Type 0
+abbrev pub Loads : Memory → ℕ → SeenLent → Now → Now → Type 0
 Loads k a s m n =
     (x : Mem) (r z : List ℕ)
     → Goes (stand (answer_of m) m.pc (with k s.entry.now (seen x.journal r x.older x.place m.used) x) z r) (peek (kind_of k) a) n.byte
@@ -407,5 +407,5 @@ abbrev pub found : Mark → calls.Find
 found r = found_at r.words (flagged r.pc r.source)
 
 -- it is found among the used words of a journal, by an image of n bytes and its writable groups; or its address and flag are 0
-abbrev pub Finds : ℕ → ℕ → Lent → Book → Mark → Type 0
+abbrev pub Finds : ℕ → ℕ → SeenLent → Book → Mark → Type 0
 Finds n w j b r = (found r ≡ calls.scan (area_of n w) b.used (turned b.ring b.place j.entry.now)) × (r.words ≡ 0 → (r.pc ≡ 0) × (r.source ≡ false))
