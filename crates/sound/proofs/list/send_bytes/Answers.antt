@@ -15,7 +15,7 @@ returns-then-next-ne0 c =
 pub loop-left-preserved : goal.loop-left-preserved
 loop-left-preserved c = (
   λ _. turns (c.loop-left.invariant.0 _)
-      (more _ _ _ c.loop-left-test.true (one_less _ c.send_next-next.auto.1.1.1.0 (c.send_next-next.ensures.0 c.if-next-ne0.false))
+      (more _ _ _ c.loop-left-test.true (one_less _ c.send_next-next.auto.output (c.send_next-next.ensures.0 c.if-next-ne0.false))
       c.plus-at.ensures refl) (c.send_next-next.ensures.1 _),
   search rules,
   search rules,
