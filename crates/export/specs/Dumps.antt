@@ -1,6 +1,6 @@
 -- How a caller in C reads what a dump's calls hand back: the answer, and a number beside it.
 use Rattle.std.specs.Prelude.{ℕ}
-use Rattle.std.specs.Borrow.{Bor, MutBor}
+use Rattle.std.specs.Borrow.{MutBor}
 use denote.Triple.Both.{Both}
 use Rattle.lines.specs.Shown.{Lent}
 use Rattle.intelhex.specs.Dump.{told, wrote}

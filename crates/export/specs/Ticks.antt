@@ -1,6 +1,6 @@
 -- How a caller in C reads what a tick leaves: the answer and `out` as of a step, how many bytes it has sent, and the output.
 use Rattle.std.specs.Prelude.{List, ℕ}
-use Rattle.std.specs.Borrow.{Bor, MutBor}
+use Rattle.std.specs.Borrow.{MutBor}
 use denote.Triple.Both.{Both}
 use Rattle.rules.specs.Machine.{State}
 use Rattle.rules.specs.Calls.{Report}

@@ -1,6 +1,6 @@
 -- The lines that the program prints: "It prints answer, steps, stores; pc; each cell changed, ascending, pad, vdp, reg."
 use Rattle.std.specs.Prelude.{◌≡◌, cond, List, [], ◌∷◌, ◌++◌, ℕ, suc, ◌+◌, ◌≤◌, eqb, length, take}
-use Rattle.std.specs.Borrow.{Bor, MutBor}
+use Rattle.std.specs.Borrow.{MutBor}
 use denote.Triple.Both.{Both}
 use Rattle.lines.specs.Ascii.{ascii}
 use Rattle.lines.specs.Digits.{show_decimal, show_hex, laid}

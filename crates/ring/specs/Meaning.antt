@@ -1,6 +1,6 @@
 -- What the journal's words and the book beside them say, in the words of the rules.
 use Rattle.std.specs.Prelude.{◌≡◌, Bool, true, false, List, [], ◌∷◌, ℕ, ◌+◌, ◌-◌, ◌%◌, ◌^◌, ltb, length, get_or, take}
-use Rattle.std.specs.Borrow.{Bor, MutBor}
+use Rattle.std.specs.Borrow.{MutBor}
 use denote.Triple.Both.{Both}
 use Rattle.rules.specs.Machine.{pick, Mem, mem}
 use Rattle.rules.specs.Journal.{turned, until_mark, place_on, forget, lay}

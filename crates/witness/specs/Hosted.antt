@@ -1,6 +1,6 @@
 -- What a host in C reads off the answer and `out`, as a reply or a report of bench.
 use Rattle.std.specs.Prelude.{◌≡◌, List, [], ◌∷◌, ℕ, length, get_or}
-use Rattle.std.specs.Borrow.{Bor, MutBor}
+use Rattle.std.specs.Borrow.{MutBor}
 use denote.Triple.Both.{Both}
 use Rattle.rules.specs.Machine.{State}
 use Rattle.rules.specs.Calls.{run}

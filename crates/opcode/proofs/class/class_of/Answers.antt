@@ -7,13 +7,13 @@ use Rattle.opcode.proofs.class.class_of.Goals as goal
 -- that an opcode is not below >10, since no arm from >00 to >0F took it
 pub returns-in-16-to-31 : goal.returns-in-16-to-31
 returns-in-16-to-31 c =
-    let skipped = c.in_default-1.rest in
+    let skipped = c.in-16-to-31.in_default-own.rest in
     listed 0x10 _ (past _ _ 0 16 (omega arith) skipped.0.0, search rules, search rules)
 
 -- nor here >EC or >ED
 pub returns-in-238-to-243 : goal.returns-in-238-to-243
 returns-in-238-to-243 c =
-    let skipped = c.in_default-1.rest in
+    let skipped = c.in-238-to-243.in_default-own.rest in
     listed 0xEE _ (past _ _ 0xEC 2 (search rules) skipped, search rules, search rules)
 
 pub returns-in-0 : goal.returns-in-0
