@@ -1,13 +1,11 @@
 -- By the tests, one after the other: each `Bad` is the rule's, and at the end the bytes are those of the text.
-use mathlib.Core.Path.{◌≡◌, sym, ap, ◌∙◌}
-use mathlib.Core.List.{List}
-use mathlib.Core.Option.{some}
-use Prim.Native.Nat.{ℕ, ◌+◌, ◌≤◌}
+use mathlib.Core.Path.{sym, ap, ◌∙◌}
+use Prim.Native.Nat.{ℕ, ◌+◌}
 use native.Mathlib.Omega.{arith}
-use lib.ListN.{drop, length-drop}
+use lib.ListN.{length-drop}
 use Rattle.lines.specs.Digits.{byte_count}
-use Rattle.lines.specs.Lines.{Part, placed, set_line, sets}
-use Rattle.lines.specs.Meaning.{number_of, part_of}
+use Rattle.lines.specs.Lines.{placed, sets}
+use Rattle.lines.specs.Meaning.{part_of}
 use Rattle.lines.proofs.Reading.{within_limit, set_short, set_tabless, set_read, whole, placed_none, placed_past, placed_in}
 use Rattle.lines.proofs.Reading.{bytes_there, two_each}
 use Rattle.lines.proofs.Said.{says_bad, says_bytes}
