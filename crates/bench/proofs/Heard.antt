@@ -12,7 +12,7 @@ use Rattle.rules.specs.Answers.{answer_for, wrong_length}
 use Rattle.rules.specs.Journal.{Store}
 use Rattle.rules.specs.Rules.{Out, got, stopped, then, sends}
 use Rattle.rules.specs.Sound.{Source, tick_rule}
-use Rattle.rules.specs.Calls.{tick, fits, Reply, done, refused, take_mark, attempt, settle, fit_step, step, step_stores, tick_sent, tick_output}
+use Rattle.rules.specs.Calls.{tick, fits, done, refused, take_mark, attempt, settle, fit_step, step, step_stores, tick_sent, tick_output}
 use Rattle.machine.specs.declared.state.Now.{Now}
 use Rattle.machine.specs.Meaning.{Stand, standing, out_of, began}
 use Rattle.sound.specs.Meaning.{Lays}
@@ -20,7 +20,7 @@ use Rattle.sound.proofs.Chain.{played}
 use Rattle.bench.specs.declared.at.At.{At}
 use Rattle.bench.specs.declared.walk.Reply as walk
 use Rattle.bench.specs.declared.ticks.Ticked.{Ticked}
-use Rattle.bench.specs.Meaning.{count_at, Lends, state_at, Returned, returned, Outcome, outcome, told, refusal, settled, beginning, settling, stepping}
+use Rattle.bench.specs.Meaning.{count_at, Lends, state_at, Returned, returned, Outcome, told, refusal, settled, beginning, settling, stepping}
 use Rattle.bench.specs.Meaning.{Heard, replied, heard, heard_as, fit_ticking, ticking, Tells}
 use Rattle.bench.proofs.Replies.{accepts, refuses, same_told}
 use Rattle.bench.proofs.Steps.{mark_of, step_unfit, step_fits}

@@ -6,7 +6,7 @@ use Prim.Native.Nat.{ℕ}
 use native.Mathlib.Omega.{arith}
 use Rattle.rules.specs.Machine.{pick, area, State}
 use Rattle.rules.specs.Answers.{saying, answer_for, wrong_length}
-use Rattle.rules.specs.Calls.{Way, instruction, fits, Reply, done, refused, made, Report, report, run, Find, found, lost, scan, back_to, fit_back, step_back, Memory, view}
+use Rattle.rules.specs.Calls.{Way, fits, Reply, done, refused, made, Report, report, run, Find, found, lost, scan, back_to, fit_back, step_back, Memory, view}
 use Rattle.rules.specs.Demands.{BackCause, wrong_parts, no_record_there, Demand1, Demand2, Ends}
 use Rattle.rules.proofs.Named.{Answered, named_run}
 use Rattle.rules.proofs.Struck.{listed_not_9, answered_not_9, back_not_9}

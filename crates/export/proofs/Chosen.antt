@@ -18,7 +18,7 @@ use Rattle.rules.proofs.Steps.{Tried, early, late, tried}
 use Rattle.rules.proofs.Fits.{fits_used, step_cases}
 use Rattle.bench.specs.declared.walk.Reply as walk
 use Rattle.bench.specs.declared.runs.Report as runs
-use Rattle.bench.specs.Meaning.{Returned, leaves, told, stepping, backing, reported, Tells}
+use Rattle.bench.specs.Meaning.{Returned, told, stepping, backing, reported, Tells}
 use Rattle.bench.proofs.Replies.{leads}
 
 abbrev pub chosen : Mem → ℕ × Bool

@@ -1,8 +1,8 @@
 -- The numbers that come out, as what the rules say.
-use mathlib.Core.Path.{◌≡◌, refl, ◌∙◌, ap, ap₂, sym}
+use mathlib.Core.Path.{◌≡◌, refl, ◌∙◌, ap, sym}
 use mathlib.Core.Bool.{Bool, true, false, not}
 use mathlib.Core.List.{List, [], ◌∷◌}
-use Prim.Native.Nat.{ℕ, zero, suc, ◌+◌, ◌≤◌}
+use Prim.Native.Nat.{ℕ, zero, suc, ◌+◌}
 use native.Mathlib.Omega.{arith}
 use lib.Dec.{eqb}
 use lib.ListN.{length}
@@ -17,7 +17,7 @@ use Rattle.bench.specs.declared.ticks.Ticked.{Ticked}
 use Rattle.bench.specs.Meaning as bench
 use Rattle.bench.specs.Meaning.{state_at, Returned, returned, Outcome, replies, told, stepping, reported, Heard, ticking, Tells}
 use Rattle.export.specs.Meaning.{Numbers, heard, Flagged, tallied, counted, one_step}
-use Rattle.export.specs.Ticks.{Sounded, sounded, one_tick}
+use Rattle.export.specs.Ticks.{sounded, one_tick}
 
 -- ---- the report of a run, and the reply of a step back
 

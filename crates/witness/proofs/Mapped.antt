@@ -11,7 +11,7 @@ use lib.ListN.{length, get_or, set, length-set}
 use lib.Seq.{get_or-set_same, get_or-set_other}
 use borrow.Author.Tests.{eq-eqb, eqb-true, eqb-false, ltb-true, ltb-false}
 use Rattle.rules.specs.Machine.{pick, State}
-use Rattle.rules.specs.Calls.{Report, run}
+use Rattle.rules.specs.Calls.{run}
 use Rattle.rules.specs.Reads.{run_reads, marked, mapped_run, map_left}
 use Rattle.rules.proofs.Tests.{false_true}
 use Rattle.worn.specs.Worn.{among, AgreeAt, with_image, Graded}

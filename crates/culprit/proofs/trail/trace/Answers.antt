@@ -1,5 +1,4 @@
 use mathlib.Core.Path.{refl, ◌∙◌, sym}
-use mathlib.Core.Bool.{true}
 use native.Mathlib.Omega.{arith}
 use Rattle.ring.proofs.Turned.{as_long}
 use Rattle.culprit.specs.Culprit.{follow, all_sound}
