@@ -1,6 +1,5 @@
 -- What the code's values say of the machine on the desk, and what its contracts say.
 use Rattle.std.specs.Prelude.{◌≡◌, Bool, true, false, cond, List, [], ◌∷◌, ◌++◌, ℕ, suc, ◌+◌, ◌-◌, ◌≤◌, ◌<◌, length, take, drop}
-use Rattle.bytes.specs.Bytes.{index_of}
 use Rattle.machine.specs.Meaning.{Lent, Parts, Rest, unmapped}
 use Rattle.rules.specs.Machine.{State}
 use Rattle.bench.specs.Meaning.{returned_by, stands_at, lent_to}
@@ -8,6 +7,7 @@ use Rattle.bench.specs.declared.at.At.{At}
 use Rattle.bench.specs.declared.runs.Report.{Report}
 use Rattle.lines.specs.Lines as lines
 use Rattle.lines.specs.Shown.{run_lines, Front}
+use Rattle.desk.specs.Bytes.{index_of}
 use Rattle.desk.specs.Desk.{obeyed, printed, says, line_feed, cut, longest, told}
 use Rattle.desk.specs.declared.input.Found.{Found}
 use Rattle.desk.specs.declared.input.Found.TheVariants.{Line, Part}
@@ -143,3 +143,7 @@ Turns ended text p parts out r = Between (λ x y. Turned ended x y out.exit.now 
 
 abbrev pub Speaks : Bool → Lent → Place → (Parts → Parts) → Turn → Type 0
 Speaks ended text p parts r = Between (λ x y. Spoken ended x r.good y) text.entry.now p parts r.place
+
+-- where a text could not be written: what was told up to it leads to some place, and the machine stands as it does there
+abbrev pub Breaks : Bool → Lent → Place → (Parts → Parts) → Type 0
+Breaks ended text p parts = (q : Place) × ((good : Bool) × Between (λ x y. Said ended x good y) text.entry.now p parts q)
