@@ -1,6 +1,7 @@
 // The program on each file that an argument names: its name, and what the program prints.
 #![tactic(auto)]
 
+use std::env::FillError;
 use std::fs::File;
 use std::io;
 use std::io::{ErrorKind, Write};
