@@ -13,7 +13,7 @@ use lib.ListN.{length, take, drop, length-drop, drop_of_length-le}
 use lib.Seq.{drop-drop, take_all, take-length}
 use Rattle.lines.specs.Lines.{Line}
 use Rattle.lines.specs.Shown.{Lent, Front, bad_line}
-use Rattle.bytes.specs.Bytes.{index_of, index_after, slice}
+use Rattle.desk.specs.Bytes.{index_of, index_after, slice}
 use Rattle.desk.specs.Desk.{line_feed, onto, cut, heard, says}
 use Rattle.desk.proofs.Cut.{first_cut}
 use Rattle.rig.specs.Meaning.{Took, Gathers}
