@@ -28,7 +28,7 @@ fn say_long<W: Write>(output: &mut W) -> io::Result<()> {
 fn show_input<R: Read, W: Write>(
     input: &mut R,
     output: &mut W,
-    text: &mut [u8],
+    text: &mut [u8; 524289],
     image: &mut [u8; 32768],
     out: &mut [u8; 88064],
 ) -> io::Result<()> {
@@ -43,7 +43,7 @@ fn show_input<R: Read, W: Write>(
 fn dump_input<R: Read, W: Write>(
     input: &mut R,
     output: &mut W,
-    text: &mut [u8],
+    text: &mut [u8; 524289],
     image: &mut [u8; 32768],
     out: &mut [u8; 90124],
 ) -> io::Result<()> {
