@@ -6,7 +6,7 @@ ghost use Rattle.arith.specs.Meaning.{one_of, two_of, effect_of};
 
 use number::{shifts, sums};
 
-#[derive(Drop)]
+#[derive(Clone, Copy)]
 pub enum One {
     Abs,
     Neg,
@@ -19,7 +19,7 @@ pub enum One {
     Dect,
 }
 
-#[derive(Drop)]
+#[derive(Clone, Copy)]
 pub enum Two {
     Add,
     Sub,
@@ -40,7 +40,7 @@ pub enum Two {
 }
 
 // Status and result; a result only; a status only; the condition bit alone.
-#[derive(Drop)]
+#[derive(Clone, Copy)]
 pub enum Effect {
     Both(u8, u16),
     Only(u16),

@@ -1,6 +1,6 @@
 // The instructions of one and two operands: the operands read, then what they store.
 ghost use Rattle.rules.specs.Instructions.{store_effect, one_rule, two_rule, ex_rule};
-ghost use Rattle.machine.specs.Meaning.{◌&◌, Does, Image, IsPad, IsVram, Journal, Map, Pad, Ring, Vram};
+ghost use Rattle.machine.specs.Meaning.{◌&◌, Does, IsPad, IsVram, Journal, Map, Pad, Ring, SeenImage, Vram};
 ghost use Rattle.operand.specs.Meaning.{cell_of};
 ghost use Rattle.arith.specs.Meaning.{one_of, two_of, effect_of};
 
@@ -23,7 +23,7 @@ fn store_effect(
     place: Place,
     e: Effect,
 ) -> Now
-    requires { IsPad pad × IsVram vram }
+    requires { IsPad pad.old × IsVram vram.old }
     ensures { Does (store_effect wide (cell_of place) (effect_of e)) (Pad pad & Vram vram & Journal journal & Ring ring) m result }
 {
     match e {
@@ -48,8 +48,8 @@ pub fn one(
     op: One,
     wide: bool,
 ) -> Now
-    requires { IsPad pad × IsVram vram }
-    ensures { Does (one_rule (one_of op) wide) (Image image & Map map & Pad pad & Vram vram & Journal journal & Ring ring) m result }
+    requires { IsPad pad.old × IsVram vram.old }
+    ensures { Does (one_rule (one_of op) wide) (SeenImage image & Map map & Pad pad & Vram vram & Journal journal & Ring ring) m result }
 {
     let target = read_target(image, map, pad, vram, journal, ring, m, wide);
     let v = target.now;
@@ -71,8 +71,8 @@ pub fn two(
     imm: bool,
     wide: bool,
 ) -> Now
-    requires { IsPad pad × IsVram vram }
-    ensures { Does (two_rule (two_of op) imm wide) (Image image & Map map & Pad pad & Vram vram & Journal journal & Ring ring) m result }
+    requires { IsPad pad.old × IsVram vram.old }
+    ensures { Does (two_rule (two_of op) imm wide) (SeenImage image & Map map & Pad pad & Vram vram & Journal journal & Ring ring) m result }
 {
     let target = read_target(image, map, pad, vram, journal, ring, m, wide);
     let a = target.now;
@@ -93,8 +93,8 @@ pub fn ex(
     m: Now,
     wide: bool,
 ) -> Now
-    requires { IsPad pad × IsVram vram }
-    ensures { Does (ex_rule wide) (Image image & Map map & Pad pad & Vram vram & Journal journal & Ring ring) m result }
+    requires { IsPad pad.old × IsVram vram.old }
+    ensures { Does (ex_rule wide) (SeenImage image & Map map & Pad pad & Vram vram & Journal journal & Ring ring) m result }
 {
     let target = read_target(image, map, pad, vram, journal, ring, m, wide);
     let a = target.now;

@@ -4,7 +4,7 @@ ghost use Rattle.rules.specs.Arithmetic.{half, span};
 ghost use Rattle.rules.specs.Operands.{byte_count, past};
 ghost use Rattle.rules.specs.Instructions;
 ghost use Rattle.rules.specs.Instructions.{halves, mul_rule, div_status, div_overflow, div_rule};
-ghost use Rattle.machine.specs.Meaning.{◌&◌, Does, Image, IsPad, IsVram, Journal, Map, Pad, Ring, Vram};
+ghost use Rattle.machine.specs.Meaning.{◌&◌, Does, IsPad, IsVram, Journal, Map, Pad, Ring, SeenImage, Vram};
 ghost use Rattle.operand.specs.Meaning.{cell_of};
 
 use machine::state::Now;
@@ -35,7 +35,7 @@ fn store_halves(
     place: Place,
     h: Halves,
 ) -> Now
-    requires { IsPad pad × IsVram vram × ((cell_of place).at + byte_count wide ≤ 16384) }
+    requires { IsPad pad.old × IsVram vram.old × ((cell_of place).at + byte_count wide ≤ 16384) }
     ensures { Does (halves wide (cell_of place) h.high h.low) (Pad pad & Vram vram & Journal journal & Ring ring) m result }
 {
     let first = values::result(pad, vram, journal, ring, m, wide, place, h.high);
@@ -62,8 +62,8 @@ pub fn mul(
     imm: bool,
     wide: bool,
 ) -> Now
-    requires { IsPad pad × IsVram vram }
-    ensures { Does (mul_rule imm wide) (Image image & Map map & Pad pad & Vram vram & Journal journal & Ring ring) m result }
+    requires { IsPad pad.old × IsVram vram.old }
+    ensures { Does (mul_rule imm wide) (SeenImage image & Map map & Pad pad & Vram vram & Journal journal & Ring ring) m result }
 {
     let target = read_target(image, map, pad, vram, journal, ring, m, wide);
     let a = target.now;
@@ -86,7 +86,7 @@ fn div_status(wide: bool) -> u8
 
 // The status again, with the overflow bit.
 fn div_overflow(pad: &mut [u8], journal: &mut [u32], ring: &mut [usize], m: Now, wide: bool) -> Now
-    requires { IsPad pad }
+    requires { IsPad pad.old }
     ensures { Does (div_overflow wide) (Pad pad & Journal journal & Ring ring) m result }
 {
     let s = div_status(wide) + OVERFLOW;
@@ -106,7 +106,7 @@ fn divided(
     lower: u16,
     b: u16,
 ) -> Now
-    requires { IsPad pad × IsVram vram × ((cell_of place).at + byte_count wide ≤ 16384) × (b < span (half wide)) × (lower < span (half wide)) }
+    requires { IsPad pad.old × IsVram vram.old × ((cell_of place).at + byte_count wide ≤ 16384) × (b < span (half wide)) × (lower < span (half wide)) }
     ensures { Does (Instructions.divided wide (cell_of place) upper lower b) (Pad pad & Vram vram & Journal journal & Ring ring) m result }
 {
     if b <= upper {
@@ -128,8 +128,8 @@ pub fn div(
     imm: bool,
     wide: bool,
 ) -> Now
-    requires { IsPad pad × IsVram vram }
-    ensures { Does (div_rule imm wide) (Image image & Map map & Pad pad & Vram vram & Journal journal & Ring ring) m result }
+    requires { IsPad pad.old × IsVram vram.old }
+    ensures { Does (div_rule imm wide) (SeenImage image & Map map & Pad pad & Vram vram & Journal journal & Ring ring) m result }
 {
     let target = read_target(image, map, pad, vram, journal, ring, m, wide);
     let upper = target.now;

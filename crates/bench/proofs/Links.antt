@@ -6,7 +6,7 @@ use Prim.Native.Nat.{ℕ, ◌+◌, ◌-◌, ◌<◌}
 use native.Mathlib.Omega.{arith}
 use lib.Dec.{eqb, leb}
 use lib.ListN.{length, take, drop}
-use denote.Ref.{Bor}
+use Rattle.std.specs.Borrow.{MutBor}
 use borrow.Author.Tests.{ne_eqb, eq-eqb, leb-true, leb-false, eqb-true}
 use Rattle.rules.specs.Machine.{pick, ◌also◌, cpu, vdp, register, size, reach, area_of, flagged, Mem, State, state, at_rest}
 use Rattle.rules.specs.Answers.{answer_for, wrong_length, no_record}
@@ -51,7 +51,7 @@ unfolding step_back
 back_fits e h k = record { is = rw (sym e ∙ h) k.is }
 
 -- what test 11 says of the lengths
-pub fitting : {p v g j : Bor (List ℕ)} {at : At} → parts_fit (length p.now) (length v.now) (length g.now) (length j.now) at.used ≡ true
+pub fitting : {p v g j : MutBor (List ℕ)} {at : At} → parts_fit (length p.now) (length v.now) (length g.now) (length j.now) at.used ≡ true
     → Fit p v g j at
 unfolding parts_fit
 fitting {p} {v} {g} {j} {at} h =
@@ -61,7 +61,7 @@ fitting {p} {v} {g} {j} {at} h =
     record { pad = eqb-true _ _ pads.0; vram = eqb-true _ _ vrams.0; regs = eqb-true _ _ regss.0; used = leb-true _ _ (both regss.1).1 }
 
 -- the same of a machine
-pub fitting_at : (i : List ℕ) {p v g j : Bor (List ℕ)} {at : At} → fits (state_at i p.now v.now g.now j.now at).mem ≡ true → Fit p v g j at
+pub fitting_at : (i : List ℕ) {p v g j : MutBor (List ℕ)} {at : At} → fits (state_at i p.now v.now g.now j.now at).mem ≡ true → Fit p v g j at
 fitting_at i {j = j} {at = at} h = fitting (both (both (rw (length_turned at.ring at.place j.now) at h)).1).0
 
 -- ---- the viewer

@@ -7,7 +7,7 @@ use native.Mathlib.Nat.{sub_self}
 use native.Mathlib.Omega.{arith}
 use lib.Dec.{ltb, eqb}
 use lib.ListN.{length, get_or, set, length-set}
-use denote.Ref.{Bor}
+use Rattle.std.specs.Borrow.{MutBor}
 use mir.Syntax.{w8}
 use mir.Val.{Fits}
 use borrow.Author.Tests.{ne_eqb}
@@ -120,7 +120,7 @@ module _ {r : Rule Source} {f : Source} {a : Answer} {pc₁ pc₂ : ℕ} {s : St
   put_back b h = rollback_step (address_small b) b.bytes refl (rw (ne_eqb a.number 0 h) at tried)
 
 -- so it has begun
-pub begun : {w : ℕ} {i p v g : List ℕ} {j d : Bor (List ℕ)} {at : At} {n : Now} {r : Rule Source} {f : Source} {pc₁ : ℕ} {s : State}
+pub begun : {w : ℕ} {i p v g : List ℕ} {j d : MutBor (List ℕ)} {at : At} {n : Now} {r : Rule Source} {f : Source} {pc₁ : ℕ} {s : State}
     → Tries r f pc₁ s (standing i [] w p v g j.now d.now at.used at.place n) → s.mem.used ≤ length s.mem.journal → at.used ≤ length j.now
     → Lends d.now j.now at → Begun j d at n
 begun {j = j} {d = d} {at = at} {n = n} h u o l =

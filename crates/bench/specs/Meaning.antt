@@ -1,6 +1,6 @@
 -- What the public calls take and hand back, in the words of the rules.
 use Rattle.std.specs.Prelude.{◌≡◌, true, List, [], ℕ, ◌-◌, ◌^◌, ◌≤◌, ◌<◌, eqb, leb, length, take, drop}
-use Rattle.std.specs.Borrow.{Bor}
+use Rattle.std.specs.Borrow.{MutBor}
 use Rattle.rules.specs.Machine.{pick, Mem, State, state, address, at_rest}
 use Rattle.rules.specs.Answers.{Answer, saying}
 use Rattle.rules.specs.Journal.{Store}
@@ -47,10 +47,10 @@ state_at i p v g j at = state at.pc at.source (mem_of i at.writable p v g j (boo
 -- ---- what test 11 asks
 
 -- of all but the image, part by part
-pub record Fit (p v g j : Bor (List ℕ)) (at : At) : Type 0 where
-  pub pad : IsPad p
-  pub vram : IsVram v
-  pub regs : IsRegs g
+pub record Fit (p v g j : MutBor (List ℕ)) (at : At) : Type 0 where
+  pub pad : IsPad p.now
+  pub vram : IsVram v.now
+  pub regs : IsRegs g.now
   pub used : at.used ≤ length j.now
 
 -- beside the journal its ring is lent; no slice of words is as long as this
@@ -59,7 +59,7 @@ pub record Lends (r j : List ℕ) (at : At) : Type 0 where
   pub long : length j < 2 ^ 61
 
 -- of all
-abbrev pub Fits : Bor (List ℕ) → Bor (List ℕ) → Bor (List ℕ) → Bor (List ℕ) → Bor (List ℕ) → At → Type 0
+abbrev pub Fits : MutBor (List ℕ) → MutBor (List ℕ) → MutBor (List ℕ) → MutBor (List ℕ) → MutBor (List ℕ) → At → Type 0
 Fits i p v g j at = calls.fits (state_at i.now p.now v.now g.now j.now at).mem ≡ true
 
 -- ---- what a call hands back: the parts as it leaves them, and its result
@@ -214,7 +214,7 @@ abbrev pub seen_at : List ℕ → List ℕ → At → Now → Mem
 seen_at j r at m = seen j r at.used at.place m.used
 
 -- what it leaves of a journal: its own words are above the older ones, all have room, and where it was not refused there is a mark
-pub record Begun (j r : Bor (List ℕ)) (at : At) (m : Now) : Type 0 where
+pub record Begun (j r : MutBor (List ℕ)) (at : At) (m : Now) : Type 0 where
   pub lends : Lends r.now j.now at
   pub before : at.used ≤ length j.now
   pub words : m.used ≤ length j.now

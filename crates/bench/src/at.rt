@@ -11,7 +11,7 @@ use ring::book::Book;
 // The program address; the used words of the journal, whether it is a ring, and the place of its oldest kept word; the groups of the image that may
 // be written, bit g for group g; and whether a sound list is in VDP RAM, else it is in GROM. A call takes it and hands the next one back.
 // The fields stand by their size, so that few bytes lie between them.
-#[derive(Drop)]
+#[derive(Clone, Copy)]
 pub struct At {
     pub used: usize,
     pub place: usize,

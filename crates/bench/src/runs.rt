@@ -14,7 +14,7 @@ use machine::answers::Why;
 
 // What a run leaves: its answer, with the address that was turned down or 0, how many steps were done, how many bytes these stored, and where
 // the machine stands.
-#[derive(Drop)]
+#[derive(Clone, Copy)]
 pub struct Report {
     pub answer: u8,
     pub address: u16,

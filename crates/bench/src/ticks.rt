@@ -9,7 +9,7 @@ use crate::{at, fits, walk};
 use machine::answers::Why;
 
 // What a tick leaves: as a step, and how many bytes it has sent, which stand in the output from its first byte on.
-#[derive(Drop)]
+#[derive(Clone, Copy)]
 pub struct Ticked {
     pub answer: u8,
     pub address: u16,

@@ -5,7 +5,7 @@ ghost use Rattle.bench.specs.Meaning.{memory_of, part};
 
 use machine::cells;
 
-#[derive(Drop)]
+#[derive(Clone, Copy)]
 pub enum Memory {
     Cpu,
     Vdp,

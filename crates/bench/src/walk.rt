@@ -16,7 +16,7 @@ use opcode::class::{Class, Task};
 use ring::book;
 
 // What a call leaves: its answer, with the address that was turned down or 0, how many bytes it stored, and where the machine stands.
-#[derive(Drop)]
+#[derive(Clone, Copy)]
 pub struct Reply {
     pub answer: u8,
     pub address: u16,

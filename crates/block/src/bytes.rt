@@ -4,7 +4,7 @@ ghost use Rattle.rules.specs.Machine.{cpu, grom, register, vdp};
 ghost use Rattle.rules.specs.Operands.{cell};
 ghost use Rattle.rules.specs.Instructions.{beyond, source_byte, register_one, move_byte};
 ghost use Rattle.rules.specs.Instructions;
-ghost use Rattle.machine.specs.Meaning.{◌&◌, Does, Gives, Groups, Image, IsPad, IsRegs, IsVram, Journal, Map, Pad, Regs, Ring, Vram};
+ghost use Rattle.machine.specs.Meaning.{◌&◌, Does, Gives, Groups, Image, IsPad, IsRegs, IsVram, Journal, Map, Pad, Regs, Ring, SeenImage, SeenPad, SeenVram, Vram};
 ghost use Rattle.block.specs.Meaning.{target_of, origin_of, NoMap};
 
 use crate::ends::{Origin, Target};
@@ -21,8 +21,8 @@ fn source_byte(
     from: Origin,
     k: u16,
 ) -> Now
-    requires { IsPad pad × IsVram vram }
-    ensures { Gives result.byte (source_byte (origin_of from) k) (Image image & Map map & Pad pad & Vram vram) m result }
+    requires { IsPad pad.now × IsVram vram.now }
+    ensures { Gives result.byte (source_byte (origin_of from) k) (SeenImage image & Map map & SeenPad pad & SeenVram vram) m result }
 {
     match from {
         Origin::Grom(a) => machine::grom::grom_byte(image, map, m, number::addresses::plus(a, k)),
@@ -46,7 +46,7 @@ fn register_one(
     m: Now,
     b: u8,
 ) -> Now
-    requires { IsPad pad × IsRegs regs }
+    requires { IsPad pad.old × IsRegs regs.old }
     ensures { Does (register_one b) (Pad pad & Regs regs & Journal journal & Ring ring) m result }
 {
     let set = 0x80 + b % 0x80;
@@ -63,7 +63,7 @@ fn to_register(
     at: usize,
     b: u8,
 ) -> Now
-    requires { IsPad pad × IsRegs regs }
+    requires { IsPad pad.old × IsRegs regs.old }
     ensures { Does (Instructions.deliver (cell register at) b) (Pad pad & Regs regs & Journal journal & Ring ring) m result }
 {
     if at == 1 {
@@ -86,7 +86,7 @@ fn deliver(
     k: u16,
     b: u8,
 ) -> Now
-    requires { IsPad pad × IsVram vram × IsRegs regs }
+    requires { IsPad pad.old × IsVram vram.old × IsRegs regs.old }
     ensures { Does (Instructions.deliver (beyond k (target_of to)) b) (Image image & Groups groups & Pad pad & Vram vram & Regs regs & Journal journal & Ring ring) m result }
 {
     match to {
@@ -128,7 +128,7 @@ pub fn move_byte(
     to: Target,
     k: u16,
 ) -> Now
-    requires { IsPad pad × IsVram vram × IsRegs regs }
+    requires { IsPad pad.old × IsVram vram.old × IsRegs regs.old }
     ensures { Does (move_byte (origin_of from) (target_of to) k) (Image image & Map map & Groups groups & Pad pad & Vram vram & Regs regs & Journal journal & Ring ring) m result }
 {
     let b = source_byte(image, map, pad, vram, m, from, k);
@@ -148,8 +148,8 @@ pub fn grom_to_vdp(
     t: u16,
     k: u16,
 ) -> Now
-    requires { IsVram vram × (a + k < length image.now) × (a + k < 65536) }
-    ensures { Does (move_byte (cell grom a) (cell vdp t) k) (Image image & NoMap & Vram vram & Journal journal & Ring ring) m result }
+    requires { IsVram vram.old × (a + k < length image.now) × (a + k < 65536) }
+    ensures { Does (move_byte (cell grom a) (cell vdp t) k) (SeenImage image & NoMap & Vram vram & Journal journal & Ring ring) m result }
 {
     if m.answer != 0 {
         return m;
@@ -171,8 +171,8 @@ pub fn pad_to_vdp(
     t: u16,
     k: u16,
 ) -> Now
-    requires { IsPad pad × IsVram vram }
-    ensures { Does (move_byte (cell cpu a) (cell vdp t) k) (Pad pad & Vram vram & Journal journal & Ring ring) m result }
+    requires { IsPad pad.now × IsVram vram.old }
+    ensures { Does (move_byte (cell cpu a) (cell vdp t) k) (SeenPad pad & Vram vram & Journal journal & Ring ring) m result }
 {
     let from = a as usize + k as usize;
     let b = machine::pad::peek_pad(pad, m, from);
@@ -190,7 +190,7 @@ pub fn vdp_to_vdp(
     t: u16,
     k: u16,
 ) -> Now
-    requires { IsVram vram }
+    requires { IsVram vram.old }
     ensures { Does (move_byte (cell vdp a) (cell vdp t) k) (Vram vram & Journal journal & Ring ring) m result }
 {
     let from = a as usize + k as usize;

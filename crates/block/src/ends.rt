@@ -3,14 +3,14 @@ ghost use Rattle.std.specs.Prelude.{◌≡◌};
 ghost use Rattle.rules.specs.Machine.{grom};
 ghost use Rattle.rules.specs.Operands.{cell, place};
 ghost use Rattle.rules.specs.Instructions.{register_cell, ram_target, move_target, grom_cell, move_source};
-ghost use Rattle.machine.specs.Meaning.{◌&◌, Gives, Image, IsPad, Journal, Map, Pad, Ring};
+ghost use Rattle.machine.specs.Meaning.{◌&◌, Gives, IsPad, Journal, Map, Pad, Ring, SeenImage, SeenPad};
 ghost use Rattle.operand.specs.Meaning.{cell_of};
 ghost use Rattle.block.specs.Meaning.{target_of, origin_of};
 
 use machine::state::Now;
 use operand::places::Place;
 
-#[derive(Drop)]
+#[derive(Clone, Copy)]
 pub enum Target {
     Pad(u16),
     Video(u16),
@@ -18,7 +18,7 @@ pub enum Target {
     Gram(u16),
 }
 
-#[derive(Drop)]
+#[derive(Clone, Copy)]
 pub enum Origin {
     Grom(u16),
     Cpu(u16),
@@ -26,13 +26,13 @@ pub enum Origin {
 }
 
 // An end, beside the state that goes on.
-#[derive(Drop)]
+#[derive(Clone, Copy)]
 pub struct Aimed {
     pub now: Now,
     pub target: Target,
 }
 
-#[derive(Drop)]
+#[derive(Clone, Copy)]
 pub struct Drawn {
     pub now: Now,
     pub origin: Origin,
@@ -57,7 +57,7 @@ fn origin_at(place: Place) -> Origin
 }
 
 fn register_cell(image: &[u8], map: &mut [u8], m: Now) -> Aimed
-    ensures { Gives (target_of result.target) register_cell (Image image & Map map) m result.now }
+    ensures { Gives (target_of result.target) register_cell (SeenImage image & Map map) m result.now }
 {
     let n = machine::grom::next_byte(image, map, m);
     Aimed {
@@ -74,8 +74,8 @@ fn place_target(
     ring: &mut [usize],
     m: Now,
 ) -> Aimed
-    requires { IsPad pad }
-    ensures { Gives (target_of result.target) place (Image image & Map map & Pad pad & Journal journal & Ring ring) m result.now }
+    requires { IsPad pad.old }
+    ensures { Gives (target_of result.target) place (SeenImage image & Map map & Pad pad & Journal journal & Ring ring) m result.now }
 {
     let o = operand::decode::operand(image, map, pad, journal, ring, m, 1);
     Aimed {
@@ -94,8 +94,8 @@ fn ram_target(
     m: Now,
     register: bool,
 ) -> Aimed
-    requires { IsPad pad }
-    ensures { Gives (target_of result.target) (ram_target register) (Image image & Map map & Pad pad & Journal journal & Ring ring) m result.now }
+    requires { IsPad pad.old }
+    ensures { Gives (target_of result.target) (ram_target register) (SeenImage image & Map map & Pad pad & Journal journal & Ring ring) m result.now }
 {
     if register {
         return register_cell(image, map, m);
@@ -105,8 +105,8 @@ fn ram_target(
 
 // A two-byte address, with an index or not.
 fn grom_cell(image: &[u8], map: &mut [u8], pad: &[u8], m: Now, x: bool) -> Now
-    requires { IsPad pad }
-    ensures { Gives (cell grom result.word) (grom_cell x) (Image image & Map map & Pad pad) m result }
+    requires { IsPad pad.now }
+    ensures { Gives (cell grom result.word) (grom_cell x) (SeenImage image & Map map & SeenPad pad) m result }
 {
     let a = machine::grom::next_word(image, map, m);
     operand::decode::indexed(image, map, pad, a, x, a.word)
@@ -123,8 +123,8 @@ pub fn move_target(
     ram: bool,
     register: bool,
 ) -> Aimed
-    requires { IsPad pad }
-    ensures { Gives (target_of result.target) (move_target ram register) (Image image & Map map & Pad pad & Journal journal & Ring ring) m result.now }
+    requires { IsPad pad.old }
+    ensures { Gives (target_of result.target) (move_target ram register) (SeenImage image & Map map & Pad pad & Journal journal & Ring ring) m result.now }
 {
     if ram {
         return ram_target(image, map, pad, journal, ring, m, register);
@@ -144,8 +144,8 @@ fn place_source(
     ring: &mut [usize],
     m: Now,
 ) -> Drawn
-    requires { IsPad pad }
-    ensures { Gives (origin_of result.origin) place (Image image & Map map & Pad pad & Journal journal & Ring ring) m result.now }
+    requires { IsPad pad.old }
+    ensures { Gives (origin_of result.origin) place (SeenImage image & Map map & Pad pad & Journal journal & Ring ring) m result.now }
 {
     let o = operand::decode::operand(image, map, pad, journal, ring, m, 1);
     Drawn {
@@ -165,8 +165,8 @@ pub fn move_source(
     operand: bool,
     x: bool,
 ) -> Drawn
-    requires { IsPad pad }
-    ensures { Gives (origin_of result.origin) (move_source operand x) (Image image & Map map & Pad pad & Journal journal & Ring ring) m result.now }
+    requires { IsPad pad.old }
+    ensures { Gives (origin_of result.origin) (move_source operand x) (SeenImage image & Map map & Pad pad & Journal journal & Ring ring) m result.now }
 {
     if operand {
         return place_source(image, map, pad, journal, ring, m);

@@ -2,7 +2,7 @@
 ghost use Rattle.std.specs.Prelude.{◌+◌, ◌≤◌};
 ghost use Rattle.rules.specs.Instructions;
 ghost use Rattle.rules.specs.Instructions.{back_rule, all_rule};
-ghost use Rattle.machine.specs.Meaning.{◌&◌, Does, Image, IsPad, IsRegs, IsVram, Journal, Map, Pad, Regs, Ring, Vram};
+ghost use Rattle.machine.specs.Meaning.{◌&◌, Does, IsPad, IsRegs, IsVram, Journal, Map, Pad, Regs, Ring, SeenImage, Vram};
 
 use machine::cells;
 use machine::state::Now;
@@ -19,8 +19,8 @@ pub fn back(
     ring: &mut [usize],
     m: Now,
 ) -> Now
-    requires { IsRegs regs }
-    ensures { Does back_rule (Image image & Map map & Regs regs & Journal journal & Ring ring) m result }
+    requires { IsRegs regs.old }
+    ensures { Does back_rule (SeenImage image & Map map & Regs regs & Journal journal & Ring ring) m result }
 {
     let b = machine::grom::next_byte(image, map, m);
     machine::registers::poke_reg(regs, journal, ring, b, BACKDROP, b.byte)
@@ -36,7 +36,7 @@ fn fill(
     at: usize,
     b: u8,
 ) -> Now
-    requires { IsVram vram × (at + n ≤ 16384) }
+    requires { IsVram vram.old × (at + n ≤ 16384) }
     ensures { Does (Instructions.fill n at b) (Vram vram & Journal journal & Ring ring) m result }
 {
     let mut x = m;
@@ -61,8 +61,8 @@ pub fn all(
     ring: &mut [usize],
     m: Now,
 ) -> Now
-    requires { IsPad pad × IsVram vram }
-    ensures { Does all_rule (Image image & Map map & Pad pad & Vram vram & Journal journal & Ring ring) m result }
+    requires { IsPad pad.old × IsVram vram.old }
+    ensures { Does all_rule (SeenImage image & Map map & Pad pad & Vram vram & Journal journal & Ring ring) m result }
 {
     let b = machine::grom::next_byte(image, map, m);
     let filled = fill(vram, journal, ring, b, SCREEN, 0, b.byte);

@@ -3,7 +3,7 @@ ghost use Rattle.std.specs.Prelude.{◌≡◌, ◌+◌, ◌≤◌, length};
 ghost use Rattle.rules.specs.Machine.{cpu, grom, vdp};
 ghost use Rattle.rules.specs.Operands.{cell};
 ghost use Rattle.rules.specs.Instructions.{move_count, move_bytes, move_rule};
-ghost use Rattle.machine.specs.Meaning.{◌&◌, Does, Groups, Image, IsPad, IsRegs, IsVram, Journal, Map, Pad, Regs, Ring, Vram};
+ghost use Rattle.machine.specs.Meaning.{◌&◌, Does, Groups, Image, IsPad, IsRegs, IsVram, Journal, Map, Pad, Regs, Ring, SeenImage, SeenPad, Vram};
 ghost use Rattle.block.specs.Meaning;
 ghost use Rattle.block.specs.Meaning.{target_of, origin_of, NoMap};
 
@@ -35,8 +35,8 @@ fn grom_bytes(
     a: u16,
     t: u16,
 ) -> Now
-    requires { IsVram vram × (a + n ≤ length image.now) × (a + n ≤ 65536) }
-    ensures { Does (move_bytes n 0 (cell grom a) (cell vdp t)) (Image image & NoMap & Vram vram & Journal journal & Ring ring) m result }
+    requires { IsVram vram.old × (a + n ≤ length image.now) × (a + n ≤ 65536) }
+    ensures { Does (move_bytes n 0 (cell grom a) (cell vdp t)) (SeenImage image & NoMap & Vram vram & Journal journal & Ring ring) m result }
 {
     let mut x = m;
     let mut k: u16 = 0;
@@ -60,8 +60,8 @@ fn pad_bytes(
     a: u16,
     t: u16,
 ) -> Now
-    requires { IsPad pad × IsVram vram }
-    ensures { Does (move_bytes n 0 (cell cpu a) (cell vdp t)) (Pad pad & Vram vram & Journal journal & Ring ring) m result }
+    requires { IsPad pad.now × IsVram vram.old }
+    ensures { Does (move_bytes n 0 (cell cpu a) (cell vdp t)) (SeenPad pad & Vram vram & Journal journal & Ring ring) m result }
 {
     let mut x = m;
     let mut k: u16 = 0;
@@ -84,7 +84,7 @@ fn vdp_bytes(
     a: u16,
     t: u16,
 ) -> Now
-    requires { IsVram vram }
+    requires { IsVram vram.old }
     ensures { Does (move_bytes n 0 (cell vdp a) (cell vdp t)) (Vram vram & Journal journal & Ring ring) m result }
 {
     let mut x = m;
@@ -114,7 +114,7 @@ fn any_bytes(
     from: Origin,
     to: Target,
 ) -> Now
-    requires { IsPad pad × IsVram vram × IsRegs regs }
+    requires { IsPad pad.old × IsVram vram.old × IsRegs regs.old }
     ensures { Does (move_bytes n 0 (origin_of from) (target_of to)) (Image image & Map map & Groups groups & Pad pad & Vram vram & Regs regs & Journal journal & Ring ring) m result }
 {
     let mut x = m;
@@ -169,7 +169,7 @@ fn move_bytes(
     from: Origin,
     to: Target,
 ) -> Now
-    requires { IsPad pad × IsVram vram × IsRegs regs }
+    requires { IsPad pad.old × IsVram vram.old × IsRegs regs.old }
     ensures { Does (move_bytes n 0 (origin_of from) (target_of to)) (Image image & Map map & Groups groups & Pad pad & Vram vram & Regs regs & Journal journal & Ring ring) m result }
 {
     if straight(image, map, ring, from, n) {
@@ -199,7 +199,7 @@ pub fn move_block(
     groups: u8,
     bits: u8,
 ) -> Now
-    requires { IsPad pad × IsVram vram × IsRegs regs }
+    requires { IsPad pad.old × IsVram vram.old × IsRegs regs.old }
     ensures { Does (move_rule bits) (Image image & Map map & Groups groups & Pad pad & Vram vram & Regs regs & Journal journal & Ring ring) m result }
 {
     let imm = number::bits::bit(0, bits);

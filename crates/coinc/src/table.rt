@@ -2,13 +2,13 @@
 ghost use Rattle.std.specs.Prelude.{◌<◌};
 ghost use Rattle.rules.specs.Coincidence;
 ghost use Rattle.rules.specs.Coincidence.{table_byte, table_bit, in_table};
-ghost use Rattle.machine.specs.Meaning.{◌&◌, Gives, Image, Map};
+ghost use Rattle.machine.specs.Meaning.{◌&◌, Gives, Map, SeenImage};
 
 use machine::state::Now;
 use number::{coincidence, words};
 
 // Whether the objects meet, beside the state that goes on.
-#[derive(Drop)]
+#[derive(Clone, Copy)]
 pub struct Meeting {
     pub now: Now,
     pub met: bool,
@@ -16,7 +16,7 @@ pub struct Meeting {
 
 // Byte k of the table at t.
 fn table_byte(image: &[u8], map: &mut [u8], m: Now, t: u16, k: u16) -> Now
-    ensures { Gives result.byte (table_byte t k) (Image image & Map map) m result }
+    ensures { Gives result.byte (table_byte t k) (SeenImage image & Map map) m result }
 {
     let at = number::addresses::plus(t, k);
     machine::grom::grom_byte(image, map, m, at)
@@ -24,7 +24,7 @@ fn table_byte(image: &[u8], map: &mut [u8], m: Now, t: u16, k: u16) -> Now
 
 // Its bit n, counted from the left.
 fn table_bit(image: &[u8], map: &mut [u8], m: Now, t: u16, n: u16) -> Meeting
-    ensures { Gives result.met (table_bit t n) (Image image & Map map) m result.now }
+    ensures { Gives result.met (table_bit t n) (SeenImage image & Map map) m result.now }
 {
     let k = 4 + n / 8;
     let b = table_byte(image, map, m, t, k);
@@ -43,7 +43,7 @@ fn meets(
     y: i16,
     x: i16,
 ) -> Meeting
-    ensures { Gives result.met (Coincidence.meets t rows columns y x) (Image image & Map map) m result.now }
+    ensures { Gives result.met (Coincidence.meets t rows columns y x) (SeenImage image & Map map) m result.now }
 {
     if coincidence::inside(y, rows) {
         if coincidence::inside(x, columns) {
@@ -57,7 +57,7 @@ fn meets(
 // By the granularity g and the pairs a of the destination and b of the source.
 pub fn in_table(image: &[u8], map: &mut [u8], m: Now, t: u16, g: u16, a: u16, b: u16) -> Meeting
     requires { g < 8 }
-    ensures { Gives result.met (in_table t g a b) (Image image & Map map) m result.now }
+    ensures { Gives result.met (in_table t g a b) (SeenImage image & Map map) m result.now }
 {
     let rows = table_byte(image, map, m, t, 0);
     let columns = table_byte(image, map, rows, t, 1);

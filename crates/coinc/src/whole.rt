@@ -2,7 +2,7 @@
 ghost use Rattle.std.specs.Prelude.{◌<◌};
 ghost use Rattle.rules.specs.Coincidence;
 ghost use Rattle.rules.specs.Coincidence.{look_up, coinc_rule};
-ghost use Rattle.machine.specs.Meaning.{◌&◌, Does, Gives, Image, IsPad, IsVram, Journal, Map, Pad, Ring, Vram};
+ghost use Rattle.machine.specs.Meaning.{◌&◌, Does, Gives, IsPad, IsVram, Journal, Map, Pad, Ring, SeenImage, SeenVram};
 
 use crate::table;
 use machine::answers::Why;
@@ -11,7 +11,7 @@ use operand::{stacks, status};
 
 // At most 7, also of a machine that has refused it: a shift by it is always sound.
 fn granularity(image: &[u8], map: &mut [u8], m: Now) -> Now
-    ensures { (result.word < 8) × Gives result.word Coincidence.granularity (Image image & Map map) m result }
+    ensures { (result.word < 8) × Gives result.word Coincidence.granularity (SeenImage image & Map map) m result }
 {
     let g = machine::grom::next_byte(image, map, m);
     let fine = machine::state::need(g, g.byte <= 7, Why::TooCoarse);
@@ -32,8 +32,8 @@ fn look_up(
     a: u16,
     b: u16,
 ) -> Now
-    requires { IsPad pad × (g < 8) }
-    ensures { Does (look_up t g a b) (Image image & Map map & Pad pad & Journal journal & Ring ring) m result }
+    requires { IsPad pad.old × (g < 8) }
+    ensures { Does (look_up t g a b) (SeenImage image & Map map & Pad pad & Journal journal & Ring ring) m result }
 {
     let pushed = stacks::push_pc(pad, journal, ring, m);
     let found = table::in_table(image, map, pushed, t, g, a, b);
@@ -51,8 +51,8 @@ pub fn coinc(
     ring: &mut [usize],
     m: Now,
 ) -> Now
-    requires { IsPad pad × IsVram vram }
-    ensures { Does coinc_rule (Image image & Map map & Pad pad & Vram vram & Journal journal & Ring ring) m result }
+    requires { IsPad pad.old × IsVram vram.now }
+    ensures { Does coinc_rule (SeenImage image & Map map & Pad pad & SeenVram vram & Journal journal & Ring ring) m result }
 {
     let a = operand::values::operand_value(image, map, pad, vram, journal, ring, m, true);
     let b = operand::values::operand_value(image, map, pad, vram, journal, ring, a, true);

@@ -14,7 +14,7 @@ use ring::book;
 use ring::book::Book;
 
 // Which memory the cell is of.
-#[derive(Drop)]
+#[derive(Clone, Copy)]
 pub enum Cell {
     Cpu,
     Vdp,
@@ -23,7 +23,7 @@ pub enum Cell {
 }
 
 // The step: how many kept ones came after it, where it began, and the bytes before it and after it.
-#[derive(Drop)]
+#[derive(Clone, Copy)]
 pub struct Culprit {
     pub after: usize,
     pub pc: u16,
@@ -31,7 +31,7 @@ pub struct Culprit {
     pub left: u8,
 }
 
-#[derive(Drop)]
+#[derive(Clone, Copy)]
 pub enum Wrote {
     Step(Culprit),
     NoneKept,
@@ -40,7 +40,7 @@ pub enum Wrote {
 }
 
 // Of the words so far: where the newest step began; and, if one stored to the cell, the newest of them.
-#[derive(Drop)]
+#[derive(Clone, Copy)]
 pub struct Trail {
     pub pc: u16,
     pub found: bool,

@@ -1,19 +1,19 @@
 -- How a caller in C reads what a dump's calls hand back: the answer, and a number beside it.
 use Rattle.std.specs.Prelude.{ℕ}
-use Rattle.std.specs.Borrow.{Bor}
+use Rattle.std.specs.Borrow.{MutBor}
 use denote.Triple.Both.{Both}
-use Rattle.lines.specs.Shown.{Lent}
+use Rattle.lines.specs.Shown.{Lent, SeenLent}
 use Rattle.intelhex.specs.Dump.{told, wrote}
 use Rattle.intelhex.specs.Meaning.{Reads, Writes}
 
 -- a number that is lent: before the call and after it
 abbrev pub Number : Type 0
-Number = Both (Bor ℕ) (Bor ℕ)
+Number = Both (MutBor ℕ) (MutBor ℕ)
 
 -- the answer and `line` are those of the rules
-abbrev pub ReadsIn : Lent → Lent → Number → ℕ → Type 0
+abbrev pub ReadsIn : SeenLent → Lent → Number → ℕ → Type 0
 ReadsIn text image line answer = Reads text image (told answer line.exit.now)
 
 -- the answer and `count`
-abbrev pub WritesIn : Lent → Lent → Number → ℕ → Type 0
+abbrev pub WritesIn : SeenLent → Lent → Number → ℕ → Type 0
 WritesIn image out count answer = Writes image out (wrote answer count.exit.now)

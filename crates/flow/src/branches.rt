@@ -2,7 +2,7 @@
 ghost use Rattle.std.specs.Prelude.{◌≡◌};
 ghost use Rattle.rules.specs.Instructions;
 ghost use Rattle.rules.specs.Instructions.{jump_in_group, jump_if, branch_rule, long_rule, call_rule, rtn_rule, rtnc_rule};
-ghost use Rattle.machine.specs.Meaning.{◌&◌, Does, Image, IsPad, Journal, Map, Nothing, Pad, Ring};
+ghost use Rattle.machine.specs.Meaning.{◌&◌, Does, IsPad, Journal, Map, Nothing, Pad, Ring, SeenImage};
 
 use machine::cells;
 use machine::state::Now;
@@ -45,8 +45,8 @@ pub fn branch(
     set: bool,
     upper: u8,
 ) -> Now
-    requires { IsPad pad }
-    ensures { Does (branch_rule set upper) (Image image & Map map & Pad pad & Journal journal & Ring ring) m result }
+    requires { IsPad pad.old }
+    ensures { Does (branch_rule set upper) (SeenImage image & Map map & Pad pad & Journal journal & Ring ring) m result }
 {
     let lower = machine::grom::next_byte(image, map, m);
     let s = machine::pad::peek_pad(pad, lower, cells::STATUS);
@@ -64,8 +64,8 @@ pub fn long(
     ring: &mut [usize],
     m: Now,
 ) -> Now
-    requires { IsPad pad }
-    ensures { Does long_rule (Image image & Map map & Pad pad & Journal journal & Ring ring) m result }
+    requires { IsPad pad.old }
+    ensures { Does long_rule (SeenImage image & Map map & Pad pad & Journal journal & Ring ring) m result }
 {
     let a = machine::grom::next_word(image, map, m);
     let jumped = machine::state::jump(a, a.word);
@@ -80,8 +80,8 @@ pub fn call(
     ring: &mut [usize],
     m: Now,
 ) -> Now
-    requires { IsPad pad }
-    ensures { Does call_rule (Image image & Map map & Pad pad & Journal journal & Ring ring) m result }
+    requires { IsPad pad.old }
+    ensures { Does call_rule (SeenImage image & Map map & Pad pad & Journal journal & Ring ring) m result }
 {
     let a = machine::grom::next_word(image, map, m);
     let pushed = stacks::push_pc(pad, journal, ring, a);
@@ -90,7 +90,7 @@ pub fn call(
 }
 
 pub fn rtn(pad: &mut [u8], journal: &mut [u32], ring: &mut [usize], m: Now) -> Now
-    requires { IsPad pad }
+    requires { IsPad pad.old }
     ensures { Does rtn_rule (Pad pad & Journal journal & Ring ring) m result }
 {
     let cleared = status::set_condition(pad, journal, ring, m, false);
@@ -98,7 +98,7 @@ pub fn rtn(pad: &mut [u8], journal: &mut [u32], ring: &mut [usize], m: Now) -> N
 }
 
 pub fn rtnc(pad: &mut [u8], journal: &mut [u32], ring: &mut [usize], m: Now) -> Now
-    requires { IsPad pad }
+    requires { IsPad pad.old }
     ensures { Does rtnc_rule (Pad pad & Journal journal & Ring ring) m result }
 {
     stacks::pop_pc(pad, journal, ring, m)

@@ -3,7 +3,7 @@ ghost use Rattle.std.specs.Prelude.{◌≡◌, false};
 ghost use Rattle.rules.specs.Machine.{pick};
 ghost use Rattle.rules.specs.Arithmetic.{extended};
 ghost use Rattle.rules.specs.Instructions.{push_rule, case_rule, fetch_rule};
-ghost use Rattle.machine.specs.Meaning.{◌&◌, Does, Image, IsPad, IsVram, Journal, Map, Pad, Ring, Vram};
+ghost use Rattle.machine.specs.Meaning.{◌&◌, Does, IsPad, IsVram, Journal, Map, Pad, Ring, SeenImage, SeenVram, Vram};
 
 use machine::answers::Why;
 use machine::cells;
@@ -22,8 +22,8 @@ pub fn push(
     m: Now,
     wide: bool,
 ) -> Now
-    requires { IsPad pad × IsVram vram }
-    ensures { Does (push_rule wide) (Image image & Map map & Pad pad & Vram vram & Journal journal & Ring ring) m result }
+    requires { IsPad pad.old × IsVram vram.now }
+    ensures { Does (push_rule wide) (SeenImage image & Map map & Pad pad & SeenVram vram & Journal journal & Ring ring) m result }
 {
     let v = operand::values::operand_value(image, map, pad, vram, journal, ring, m, wide);
     let p = machine::pad::peek_pad(pad, v, cells::DATA_POINTER);
@@ -47,8 +47,8 @@ pub fn case(
     m: Now,
     wide: bool,
 ) -> Now
-    requires { IsPad pad × IsVram vram }
-    ensures { Does (case_rule wide) (Image image & Map map & Pad pad & Vram vram & Journal journal & Ring ring) m result }
+    requires { IsPad pad.old × IsVram vram.now }
+    ensures { Does (case_rule wide) (SeenImage image & Map map & Pad pad & SeenVram vram & Journal journal & Ring ring) m result }
 {
     let v = operand::values::operand_value(image, map, pad, vram, journal, ring, m, wide);
     let signed = number::sums::extended(wide, v.word);
@@ -79,8 +79,8 @@ pub fn fetch(
     m: Now,
     wide: bool,
 ) -> Now
-    requires { IsPad pad × IsVram vram }
-    ensures { Does (fetch_rule wide) (Image image & Map map & Pad pad & Vram vram & Journal journal & Ring ring) m result }
+    requires { IsPad pad.old × IsVram vram.old }
+    ensures { Does (fetch_rule wide) (SeenImage image & Map map & Pad pad & Vram vram & Journal journal & Ring ring) m result }
 {
     let target = read_target(image, map, pad, vram, journal, ring, m, wide);
     let read = target.now;

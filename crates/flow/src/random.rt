@@ -1,6 +1,6 @@
 // RAND: the seed at >C0 goes on, and >78 gets a random number of it.
 ghost use Rattle.rules.specs.Instructions.{rand_rule};
-ghost use Rattle.machine.specs.Meaning.{◌&◌, Does, Image, IsPad, Journal, Map, Pad, Ring};
+ghost use Rattle.machine.specs.Meaning.{◌&◌, Does, IsPad, Journal, Map, Pad, Ring, SeenImage};
 
 use machine::cells;
 use machine::state::Now;
@@ -14,8 +14,8 @@ pub fn rand(
     ring: &mut [usize],
     m: Now,
 ) -> Now
-    requires { IsPad pad }
-    ensures { Does rand_rule (Image image & Map map & Pad pad & Journal journal & Ring ring) m result }
+    requires { IsPad pad.old }
+    ensures { Does rand_rule (SeenImage image & Map map & Pad pad & Journal journal & Ring ring) m result }
 {
     let s = machine::pad::peek_pad_word(pad, m, cells::SEED);
     let seed = number::random::next_seed(s.word);

@@ -9,7 +9,7 @@ use machine::cells;
 use machine::state::Now;
 
 // H, GT, CARRY, OVF: by the status bit that they test.
-#[derive(Drop)]
+#[derive(Clone, Copy)]
 pub enum Test {
     High,
     Greater,
@@ -30,7 +30,7 @@ fn tested(t: Test, s: u8) -> bool
 }
 
 pub fn test_status(pad: &mut [u8], journal: &mut [u32], ring: &mut [usize], m: Now, t: Test) -> Now
-    requires { IsPad pad }
+    requires { IsPad pad.old }
     ensures { Does (test_rule (test_of t)) (Pad pad & Journal journal & Ring ring) m result }
 {
     let s = machine::pad::peek_pad(pad, m, cells::STATUS);

@@ -4,7 +4,7 @@ ghost use Rattle.rules.specs.Rules.{give};
 ghost use Rattle.rules.specs.Format;
 ghost use Rattle.rules.specs.Format.{on, count, open_block, close_block, repeat_block, block_turn};
 ghost use Rattle.rules.specs.Format.{end_inside, end_outside, end_code, grom_bias, operand_bias, last_row, code_rule, fmt_rule};
-ghost use Rattle.machine.specs.Meaning.{◌&◌, Does, Image, IsPad, IsVram, Journal, Map, Nothing, Pad, Ring, Vram};
+ghost use Rattle.machine.specs.Meaning.{◌&◌, Does, IsPad, IsVram, Journal, Map, Nothing, Pad, Ring, SeenImage, Vram};
 ghost use Rattle.format.specs.Meaning.{Turns};
 
 use crate::{cursor, text};
@@ -15,7 +15,7 @@ use machine::state::Now;
 const MOST_CODES: u16 = 16384;
 
 // Where a format string stands after a code: going on with a bias and so many blocks not yet closed, or at its end.
-#[derive(Drop)]
+#[derive(Clone, Copy)]
 pub struct Turn {
     pub now: Now,
     pub going: bool,
@@ -46,7 +46,7 @@ fn open_block(
     bias: u8,
     blocks: u16,
 ) -> Turn
-    requires { IsPad pad × (0 < n) × (n ≤ 32) × (blocks ≤ 16384) }
+    requires { IsPad pad.old × (0 < n) × (n ≤ 32) × (blocks ≤ 16384) }
     ensures { (result.blocks ≤ blocks + 1) × Turns (open_block n bias blocks) (Pad pad & Journal journal & Ring ring) m result }
 {
     let p = operand::stacks::raise(pad, journal, ring, m);
@@ -77,7 +77,7 @@ fn close_block(
     bias: u8,
     blocks: u16,
 ) -> Turn
-    requires { IsPad pad × (0 < blocks) }
+    requires { IsPad pad.old × (0 < blocks) }
     ensures { (result.blocks ≤ blocks + 1) × Turns (close_block p bias blocks) (Pad pad & Journal journal & Ring ring) m result }
 {
     let down = lowered(p);
@@ -105,7 +105,7 @@ fn block_turn(
     bias: u8,
     blocks: u16,
 ) -> Turn
-    requires { IsPad pad × (0 < blocks) }
+    requires { IsPad pad.old × (0 < blocks) }
     ensures { (result.blocks ≤ blocks + 1) × Turns (block_turn n p a bias blocks) (Pad pad & Journal journal & Ring ring) m result }
 {
     if n == 0 {
@@ -126,8 +126,8 @@ fn end_inside(
     bias: u8,
     blocks: u16,
 ) -> Turn
-    requires { IsPad pad × (0 < blocks) }
-    ensures { (result.blocks ≤ blocks + 1) × Turns (end_inside bias blocks) (Image image & Map map & Pad pad & Journal journal & Ring ring) m result }
+    requires { IsPad pad.old × (0 < blocks) }
+    ensures { (result.blocks ≤ blocks + 1) × Turns (end_inside bias blocks) (SeenImage image & Map map & Pad pad & Journal journal & Ring ring) m result }
 {
     let a = machine::grom::next_word(image, map, m);
     let p = machine::pad::peek_pad(pad, a, cells::SUB_POINTER);
@@ -139,7 +139,7 @@ fn end_inside(
 }
 
 fn end_outside(pad: &mut [u8], journal: &mut [u32], ring: &mut [usize], m: Now) -> Turn
-    requires { IsPad pad }
+    requires { IsPad pad.old }
     ensures { (result.blocks ≡ 0) × Turns end_outside (Pad pad & Journal journal & Ring ring) m result }
 {
     let settled = cursor::settle_cursor(pad, journal, ring, m);
@@ -161,8 +161,8 @@ fn end_code(
     bias: u8,
     blocks: u16,
 ) -> Turn
-    requires { IsPad pad }
-    ensures { (result.blocks ≤ blocks + 1) × Turns (end_code bias blocks) (Image image & Map map & Pad pad & Journal journal & Ring ring) m result }
+    requires { IsPad pad.old }
+    ensures { (result.blocks ≤ blocks + 1) × Turns (end_code bias blocks) (SeenImage image & Map map & Pad pad & Journal journal & Ring ring) m result }
 {
     if blocks == 0 {
         return end_outside(pad, journal, ring, m);
@@ -173,7 +173,7 @@ fn end_code(
 // ---- the bias
 
 fn grom_bias(image: &[u8], map: &mut [u8], m: Now, blocks: u16) -> Turn
-    ensures { (result.blocks ≤ blocks + 1) × Turns (grom_bias blocks) (Image image & Map map) m result }
+    ensures { (result.blocks ≤ blocks + 1) × Turns (grom_bias blocks) (SeenImage image & Map map) m result }
 {
     let b = machine::grom::next_byte(image, map, m);
     go_on(b, b.byte, blocks)
@@ -188,8 +188,8 @@ fn operand_bias(
     m: Now,
     blocks: u16,
 ) -> Turn
-    requires { IsPad pad }
-    ensures { (result.blocks ≤ blocks + 1) × Turns (operand_bias blocks) (Image image & Map map & Pad pad & Journal journal & Ring ring) m result }
+    requires { IsPad pad.old }
+    ensures { (result.blocks ≤ blocks + 1) × Turns (operand_bias blocks) (SeenImage image & Map map & Pad pad & Journal journal & Ring ring) m result }
 {
     let a = text::cpu_operand(image, map, pad, journal, ring, m);
     let at = a.word as usize;
@@ -220,8 +220,8 @@ fn text_code(
     blocks: u16,
     c: u8,
 ) -> Turn
-    requires { IsPad pad × IsVram vram × (c < 0x80) }
-    ensures { (result.blocks ≤ blocks + 1) × Turns (code_rule bias blocks c) (Image image & Map map & Pad pad & Vram vram & Journal journal & Ring ring) m result }
+    requires { IsPad pad.old × IsVram vram.old × (c < 0x80) }
+    ensures { (result.blocks ≤ blocks + 1) × Turns (code_rule bias blocks c) (SeenImage image & Map map & Pad pad & Vram vram & Journal journal & Ring ring) m result }
 {
     let n = count_of(c);
     if c < 0x20 {
@@ -253,8 +253,8 @@ fn last_row(
     blocks: u16,
     c: u8,
 ) -> Turn
-    requires { IsPad pad × IsVram vram }
-    ensures { (result.blocks ≤ blocks + 1) × Turns (last_row bias blocks c) (Image image & Map map & Pad pad & Vram vram & Journal journal & Ring ring) m result }
+    requires { IsPad pad.old × IsVram vram.old }
+    ensures { (result.blocks ≤ blocks + 1) × Turns (last_row bias blocks c) (SeenImage image & Map map & Pad pad & Vram vram & Journal journal & Ring ring) m result }
 {
     if c < 0xFB {
         let shown = text::operand_text(image, map, pad, vram, journal, ring, m, count_of(c), bias);
@@ -289,8 +289,8 @@ fn by_code(
     blocks: u16,
     c: u8,
 ) -> Turn
-    requires { IsPad pad × IsVram vram × (blocks ≤ 16384) }
-    ensures { (result.blocks ≤ blocks + 1) × Turns (code_rule bias blocks c) (Image image & Map map & Pad pad & Vram vram & Journal journal & Ring ring) m result }
+    requires { IsPad pad.old × IsVram vram.old × (blocks ≤ 16384) }
+    ensures { (result.blocks ≤ blocks + 1) × Turns (code_rule bias blocks c) (SeenImage image & Map map & Pad pad & Vram vram & Journal journal & Ring ring) m result }
 {
     let n = count_of(c);
     if c < 0x80 {
@@ -322,8 +322,8 @@ fn code(
     bias: u8,
     blocks: u16,
 ) -> Turn
-    requires { IsPad pad × IsVram vram × (blocks ≤ 16384) }
-    ensures { (result.blocks ≤ blocks + 1) × Turns (Format.code bias blocks) (Image image & Map map & Pad pad & Vram vram & Journal journal & Ring ring) m result }
+    requires { IsPad pad.old × IsVram vram.old × (blocks ≤ 16384) }
+    ensures { (result.blocks ≤ blocks + 1) × Turns (Format.code bias blocks) (SeenImage image & Map map & Pad pad & Vram vram & Journal journal & Ring ring) m result }
 {
     let c = machine::grom::next_byte(image, map, m);
     by_code(
@@ -341,8 +341,8 @@ pub fn format(
     ring: &mut [usize],
     m: Now,
 ) -> Now
-    requires { IsPad pad × IsVram vram }
-    ensures { Does fmt_rule (Image image & Map map & Pad pad & Vram vram & Journal journal & Ring ring) m result }
+    requires { IsPad pad.old × IsVram vram.old }
+    ensures { Does fmt_rule (SeenImage image & Map map & Pad pad & Vram vram & Journal journal & Ring ring) m result }
 {
     let mut x = m;
     let mut bias: u8 = 0;

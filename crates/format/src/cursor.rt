@@ -2,13 +2,13 @@
 ghost use Rattle.std.specs.Prelude.{◌≤◌};
 ghost use Rattle.rules.specs.Format;
 ghost use Rattle.rules.specs.Format.{set_cursor, settle_cursor, cursor_code};
-ghost use Rattle.machine.specs.Meaning.{◌&◌, Does, Image, IsPad, IsVram, Journal, Map, Pad, Ring, Vram};
+ghost use Rattle.machine.specs.Meaning.{◌&◌, Does, IsPad, IsVram, Journal, Map, Pad, Ring, SeenImage, Vram};
 
 use machine::cells;
 use machine::state::Now;
 
 fn set_cursor(pad: &mut [u8], journal: &mut [u32], ring: &mut [usize], m: Now, p: u16) -> Now
-    requires { IsPad pad }
+    requires { IsPad pad.old }
     ensures { Does (set_cursor p) (Pad pad & Journal journal & Ring ring) m result }
 {
     let row = number::cursor::row_of(p);
@@ -27,7 +27,7 @@ pub fn show(
     step: u16,
     b: u8,
 ) -> Now
-    requires { IsPad pad × IsVram vram × (step ≤ 32) }
+    requires { IsPad pad.old × IsVram vram.old × (step ≤ 32) }
     ensures { Does (Format.show step b) (Pad pad & Vram vram & Journal journal & Ring ring) m result }
 {
     // A machine that has refused goes no further: it keeps the refused way short where this is put in line.
@@ -44,7 +44,7 @@ pub fn show(
 
 // n cells on.
 pub fn skip(pad: &mut [u8], journal: &mut [u32], ring: &mut [usize], m: Now, n: u16) -> Now
-    requires { IsPad pad × (n ≤ 1024) }
+    requires { IsPad pad.old × (n ≤ 1024) }
     ensures { Does (Format.skip n) (Pad pad & Journal journal & Ring ring) m result }
 {
     let p = operand::screen::position(pad, m);
@@ -55,7 +55,7 @@ pub fn skip(pad: &mut [u8], journal: &mut [u32], ring: &mut [usize], m: Now, n: 
 
 // Row and column stored as the position gives them.
 pub fn settle_cursor(pad: &mut [u8], journal: &mut [u32], ring: &mut [usize], m: Now) -> Now
-    requires { IsPad pad }
+    requires { IsPad pad.old }
     ensures { Does settle_cursor (Pad pad & Journal journal & Ring ring) m result }
 {
     let p = operand::screen::position(pad, m);
@@ -72,8 +72,8 @@ pub fn cursor_code(
     m: Now,
     at: usize,
 ) -> Now
-    requires { IsPad pad }
-    ensures { Does (cursor_code at) (Image image & Map map & Pad pad & Journal journal & Ring ring) m result }
+    requires { IsPad pad.old }
+    ensures { Does (cursor_code at) (SeenImage image & Map map & Pad pad & Journal journal & Ring ring) m result }
 {
     let settled = settle_cursor(pad, journal, ring, m);
     let b = machine::grom::next_byte(image, map, settled);

@@ -2,7 +2,7 @@
 ghost use Rattle.std.specs.Prelude.{◌≡◌, ◌<◌, ◌≤◌};
 ghost use Rattle.rules.specs.Format;
 ghost use Rattle.rules.specs.Format.{show_next, show_times, repeat_text, is_cpu, cpu_operand, show_cell, pad_text, operand_text};
-ghost use Rattle.machine.specs.Meaning.{◌&◌, Does, Gives, Image, IsPad, IsVram, Journal, Map, Pad, Ring, Vram};
+ghost use Rattle.machine.specs.Meaning.{◌&◌, Does, Gives, IsPad, IsVram, Journal, Map, Pad, Ring, SeenImage, Vram};
 ghost use Rattle.operand.specs.Meaning.{cell_of};
 
 use crate::cursor;
@@ -23,8 +23,8 @@ fn show_next(
     step: u16,
     bias: u8,
 ) -> Now
-    requires { IsPad pad × IsVram vram × (step ≤ 32) }
-    ensures { Does (show_next step bias) (Image image & Map map & Pad pad & Vram vram & Journal journal & Ring ring) m result }
+    requires { IsPad pad.old × IsVram vram.old × (step ≤ 32) }
+    ensures { Does (show_next step bias) (SeenImage image & Map map & Pad pad & Vram vram & Journal journal & Ring ring) m result }
 {
     let ch = machine::grom::next_byte(image, map, m);
     let b = std::num::wrapping_add_u8(ch.byte, bias);
@@ -44,8 +44,8 @@ pub fn text(
     step: u16,
     bias: u8,
 ) -> Now
-    requires { IsPad pad × IsVram vram × (step ≤ 32) }
-    ensures { Does (Format.text n step bias) (Image image & Map map & Pad pad & Vram vram & Journal journal & Ring ring) m result }
+    requires { IsPad pad.old × IsVram vram.old × (step ≤ 32) }
+    ensures { Does (Format.text n step bias) (SeenImage image & Map map & Pad pad & Vram vram & Journal journal & Ring ring) m result }
 {
     let mut x = m;
     let mut left = n;
@@ -70,7 +70,7 @@ fn show_times(
     step: u16,
     b: u8,
 ) -> Now
-    requires { IsPad pad × IsVram vram × (step ≤ 32) }
+    requires { IsPad pad.old × IsVram vram.old × (step ≤ 32) }
     ensures { Does (show_times n step b) (Pad pad & Vram vram & Journal journal & Ring ring) m result }
 {
     let mut x = m;
@@ -97,8 +97,8 @@ pub fn repeat_text(
     step: u16,
     bias: u8,
 ) -> Now
-    requires { IsPad pad × IsVram vram × (step ≤ 32) }
-    ensures { Does (repeat_text n step bias) (Image image & Map map & Pad pad & Vram vram & Journal journal & Ring ring) m result }
+    requires { IsPad pad.old × IsVram vram.old × (step ≤ 32) }
+    ensures { Does (repeat_text n step bias) (SeenImage image & Map map & Pad pad & Vram vram & Journal journal & Ring ring) m result }
 {
     let repeated = machine::grom::next_byte(image, map, m);
     let b = std::num::wrapping_add_u8(repeated.byte, bias);
@@ -134,8 +134,8 @@ pub fn cpu_operand(
     ring: &mut [usize],
     m: Now,
 ) -> Now
-    requires { IsPad pad }
-    ensures { Gives result.word cpu_operand (Image image & Map map & Pad pad & Journal journal & Ring ring) m result }
+    requires { IsPad pad.old }
+    ensures { Gives result.word cpu_operand (SeenImage image & Map map & Pad pad & Journal journal & Ring ring) m result }
 {
     let o = operand::decode::operand(image, map, pad, journal, ring, m, 1);
     let at = operand::places::now_of(o);
@@ -154,7 +154,7 @@ fn show_cell(
     a: usize,
     bias: u8,
 ) -> Now
-    requires { IsPad pad × IsVram vram }
+    requires { IsPad pad.old × IsVram vram.old }
     ensures { Does (show_cell a bias) (Pad pad & Vram vram & Journal journal & Ring ring) m result }
 {
     let ch = machine::pad::peek_pad(pad, m, a);
@@ -173,7 +173,7 @@ fn pad_text(
     a: usize,
     bias: u8,
 ) -> Now
-    requires { IsPad pad × IsVram vram × (a < 65536) }
+    requires { IsPad pad.old × IsVram vram.old × (a < 65536) }
     ensures { Does (pad_text n a bias) (Pad pad & Vram vram & Journal journal & Ring ring) m result }
 {
     let mut x = m;
@@ -201,8 +201,8 @@ pub fn operand_text(
     n: u16,
     bias: u8,
 ) -> Now
-    requires { IsPad pad × IsVram vram }
-    ensures { Does (operand_text n bias) (Image image & Map map & Pad pad & Vram vram & Journal journal & Ring ring) m result }
+    requires { IsPad pad.old × IsVram vram.old }
+    ensures { Does (operand_text n bias) (SeenImage image & Map map & Pad pad & Vram vram & Journal journal & Ring ring) m result }
 {
     let a = cpu_operand(image, map, pad, journal, ring, m);
     let at = a.word as usize;

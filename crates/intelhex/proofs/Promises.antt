@@ -10,7 +10,7 @@ use lib.Dec.{leb}
 use lib.ListN.{length, take, drop}
 use lib.Seq.{take-append_seam}
 use borrow.Author.Tests.{eq-eqb, leb-true}
-use Rattle.lines.specs.Shown.{Lent}
+use Rattle.lines.specs.Shown.{Lent, SeenLent}
 use Rattle.lines.proofs.Overlay.{laid_front}
 use Rattle.intelhex.specs.Dump.{told, groups, needs, wrote, read_answer, read_image, text_of, write_answer, write_out}
 use Rattle.intelhex.specs.Meaning.{Reads, Writes, Bytes}
@@ -21,7 +21,7 @@ use Rattle.intelhex.proofs.Writing.{length_text}
 
 -- ---- two outcomes that a contract allows are equal
 
-pub reads_determined : {text image other : Lent} {r s : Read} → image.entry.now ≡ other.entry.now → Reads text image r → Reads text other s
+pub reads_determined : {text : SeenLent} {image other : Lent} {r s : Read} → image.entry.now ≡ other.entry.now → Reads text image r → Reads text other s
     → (r ≡ s) × (image.exit.now ≡ other.exit.now)
 reads_determined {text} e a b = (
   a.says ∙ ap (λ (i : List ℕ). read_answer (length i) text.entry.now) e ∙ sym b.says,
@@ -29,7 +29,7 @@ reads_determined {text} e a b = (
       (λ (i : List ℕ). read_image i text.entry.now) e ∙ sym b.leaves,
 )
 
-pub writes_determined : {image out other : Lent} {w v : Written} → out.entry.now ≡ other.entry.now → Writes image out w → Writes image other v
+pub writes_determined : {image : SeenLent} {out other : Lent} {w v : Written} → out.entry.now ≡ other.entry.now → Writes image out w → Writes image other v
     → (w ≡ v) × (out.exit.now ≡ other.exit.now)
 writes_determined {image} e a b = (
   a.says ∙ ap (λ (o : List ℕ). write_answer (length image.entry.now) (length o)) e ∙ sym b.says,
@@ -61,7 +61,7 @@ module _ (image out : List ℕ) (w : Written) (e : w ≡ write_answer (length im
       rw (eq-eqb (write_answer (length image) (length out)).answer 0 none, done.2, ← long, laid_front out (text_of image) room)
       (take-append_seam (text_of image) (drop (length (text_of image)) out))
 
-pub written_back : {image out text again : Lent} {w : Written} {r : Read} → Bytes image.entry.now → Writes image out w → w.answer ≡ 0
+pub written_back : {image : SeenLent} {out : Lent} {text : SeenLent} {again : Lent} {w : Written} {r : Read} → Bytes image.entry.now → Writes image out w → w.answer ≡ 0
     → text.entry.now ≡ take w.count out.exit.now → length again.entry.now ≡ length image.entry.now → Reads text again r
     → (r ≡ told 0 0) × (again.exit.now ≡ image.entry.now)
 written_back {image} {out} {text} {again} {w} d a z t l b =

@@ -1,6 +1,6 @@
 -- What the code's values say in the words of the format, and what its contracts say.
 use Rattle.std.specs.Prelude.{◌≡◌, cond, List, [], ◌∷◌, ℕ, zero, suc, ◌+◌, ◌*◌, ◌≤◌, ◌<◌, eqb, length, get_or, take, drop}
-use Rattle.lines.specs.Shown.{Lent}
+use Rattle.lines.specs.Shown.{Lent, SeenLent}
 use Rattle.intelhex.specs.Dump.{trial, named, read_answer, read_image, write_answer, write_out}
 use Rattle.intelhex.specs.Lines.{cr}
 use Rattle.intelhex.specs.Records as format
@@ -58,12 +58,12 @@ pub record Marks (was : List ℕ) (at k answer : ℕ) (is : List ℕ) : Type 0 w
   pub leaves : is ≡ cond (eqb answer 0) (named was at k) was
 
 -- a text read into an image
-pub record Reads (text image : Lent) (r : Read) : Type 0 where
+pub record Reads (text : SeenLent) (image : Lent) (r : Read) : Type 0 where
   pub says : r ≡ read_answer (length image.entry.now) text.entry.now
   pub leaves : image.exit.now ≡ read_image image.entry.now text.entry.now
 
 -- an image written to an output
-pub record Writes (image out : Lent) (w : Written) : Type 0 where
+pub record Writes (image : SeenLent) (out : Lent) (w : Written) : Type 0 where
   pub says : w ≡ write_answer (length image.entry.now) (length out.entry.now)
   pub leaves : out.exit.now ≡ write_out image.entry.now out.entry.now
 

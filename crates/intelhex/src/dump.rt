@@ -13,14 +13,14 @@ use crate::rows::put_rows;
 use lines::print::put_word;
 
 // The line at fault; 0 where there is none.
-#[derive(Drop)]
+#[derive(Clone, Copy)]
 pub struct Read {
     pub answer: u8,
     pub line: usize,
 }
 
 // How many bytes of the output are the text.
-#[derive(Drop)]
+#[derive(Clone, Copy)]
 pub struct Written {
     pub answer: u8,
     pub count: usize,

@@ -8,13 +8,13 @@ ghost use Rattle.intelhex.specs.Records.{fields};
 
 use crate::digits::{all_digits, pair, sum};
 
-#[derive(Drop)]
+#[derive(Clone, Copy)]
 pub struct Bytes {
     pub address: usize,
     pub count: usize,
 }
 
-#[derive(Drop)]
+#[derive(Clone, Copy)]
 pub enum Record {
     Holds(Bytes),
     End,
@@ -22,7 +22,7 @@ pub enum Record {
 }
 
 // A record, where its line begins, and where the next line begins.
-#[derive(Drop)]
+#[derive(Clone, Copy)]
 pub struct Line {
     pub item: Record,
     pub start: usize,

@@ -4,7 +4,7 @@ ghost use Rattle.intelhex.specs.Meaning.{Next};
 
 use crate::line::{Line, line_at};
 
-#[derive(Drop)]
+#[derive(Clone, Copy)]
 pub struct Reader<'a> {
     pub text: &'a [u8],
     pub at: usize,

@@ -1,6 +1,6 @@
 -- The lines that the program prints: "It prints answer, steps, stores; pc; each cell changed, ascending, pad, vdp, reg."
 use Rattle.std.specs.Prelude.{◌≡◌, cond, List, [], ◌∷◌, ◌++◌, ℕ, suc, ◌+◌, ◌≤◌, eqb, length, take}
-use Rattle.std.specs.Borrow.{Bor}
+use Rattle.std.specs.Borrow.{Bor, MutBor}
 use denote.Triple.Both.{Both}
 use Rattle.lines.specs.Ascii.{ascii}
 use Rattle.lines.specs.Digits.{show_decimal, show_hex, laid}
@@ -59,7 +59,11 @@ pub record Front (text buffer : List ℕ) (count : ℕ) : Type 0 where
 
 -- a slice that is lent: before the call and after it
 abbrev pub Lent : Type 0
-Lent = Both (Bor (List ℕ)) (Bor (List ℕ))
+Lent = Both (MutBor (List ℕ)) (MutBor (List ℕ))
+
+-- a slice that is lent to be read alone
+abbrev pub SeenLent : Type 0
+SeenLent = Both (Bor (List ℕ)) (Bor (List ℕ))
 
 -- what a contract says of the buffer that it is lent
 abbrev pub Prints : ℕ → List ℕ → Lent → ℕ → ℕ → Type 0

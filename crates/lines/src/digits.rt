@@ -4,7 +4,7 @@ ghost use Rattle.lines.specs.Digits;
 ghost use Rattle.lines.specs.Digits.{up_to, numeral};
 ghost use Rattle.lines.specs.Meaning.{number_of};
 
-#[derive(Drop)]
+#[derive(Clone, Copy)]
 pub enum Number {
     Is(u64),
     Refused,

@@ -3,7 +3,7 @@ ghost use Rattle.std.specs.Prelude.{◌≡◌};
 ghost use Rattle.lines.specs.Lines;
 ghost use Rattle.lines.specs.Meaning.{part_of};
 
-#[derive(Drop)]
+#[derive(Clone, Copy)]
 pub enum Part {
     Grom,
     Pad,

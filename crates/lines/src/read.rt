@@ -9,14 +9,14 @@ use crate::digits::{Number, byte_of, count_bytes, number_of};
 use crate::parts::{Part, places, size};
 
 // Bytes for a part: the address, where in the text the first digit stands, and how many bytes.
-#[derive(Drop)]
+#[derive(Clone, Copy)]
 pub struct Bytes {
     pub at: u16,
     pub from: usize,
     pub count: usize,
 }
 
-#[derive(Drop)]
+#[derive(Clone, Copy)]
 pub enum Line {
     Grom(Bytes),
     Pad(Bytes),

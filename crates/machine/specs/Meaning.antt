@@ -1,6 +1,6 @@
 -- What the code's values say, in the words of the rules.
 use Rattle.std.specs.Prelude.{◌≡◌, List, [], Bool, true, false, ℕ, ◌/◌, ◌<◌, eqb, length, set}
-use Rattle.std.specs.Borrow.{Bor}
+use Rattle.std.specs.Borrow.{Bor, MutBor}
 use denote.Triple.Both.{Both}
 use Rattle.rules.specs.Machine.{pick, bit, Kind, cpu, vdp, register, grom, upon, group, size, reach, area_of, flagged, Mem, mem}
 use Rattle.rules.specs.Rules.{Rule, Deed, Out, got, stopped, then, after, valued, peek, poke}
@@ -109,7 +109,11 @@ kept_by u n = record { pc = n.pc; used = u; answer = n.answer; address = n.addre
 
 -- a slice that is lent: before the call and after it
 abbrev pub Lent : Type 0
-Lent = Both (Bor (List ℕ)) (Bor (List ℕ))
+Lent = Both (MutBor (List ℕ)) (MutBor (List ℕ))
+
+-- a slice that is lent to be read alone
+abbrev pub SeenLent : Type 0
+SeenLent = Both (Bor (List ℕ)) (Bor (List ℕ))
 
 -- a part of the machine, as a function has it: lent; or out of its sight, and so any list at all, which stays
 pub data Part : Type 0 where
@@ -176,6 +180,28 @@ Journal s l = journal_from s.entry.now s.exit.now l
 -- the ring beside it, which a plain journal has not: an empty one is lent
 abbrev pub Ring : Lent → Parts → Parts
 Ring s l = ring_from s.entry.now s.exit.now l
+
+-- the same of slices that are read alone
+abbrev pub SeenImage : SeenLent → Parts → Parts
+SeenImage s l = image_from s.entry.now s.exit.now l
+
+abbrev pub SeenMap : SeenLent → Parts → Parts
+SeenMap s l = map_from s.entry.now s.exit.now l
+
+abbrev pub SeenPad : SeenLent → Parts → Parts
+SeenPad s l = pad_from s.entry.now s.exit.now l
+
+abbrev pub SeenVram : SeenLent → Parts → Parts
+SeenVram s l = vram_from s.entry.now s.exit.now l
+
+abbrev pub SeenRegs : SeenLent → Parts → Parts
+SeenRegs s l = regs_from s.entry.now s.exit.now l
+
+abbrev pub SeenJournal : SeenLent → Parts → Parts
+SeenJournal s l = journal_from s.entry.now s.exit.now l
+
+abbrev pub SeenRing : SeenLent → Parts → Parts
+SeenRing s l = ring_from s.entry.now s.exit.now l
 
 abbrev pub Groups : ℕ → Parts → Parts
 Groups w l = record { image = l.image; map = l.map; groups = named w; pad = l.pad; vram = l.vram; regs = l.regs; journal = l.journal; ring = l.ring }
@@ -285,14 +311,14 @@ abbrev pub Became : (Mem → Mem) → (Parts → Parts) → Book → Book → Ty
 Became g f b c = (rest : Rest (f unmapped)) → mem_after (f unmapped) rest c ≡ g (mem_before (f unmapped) rest b)
 
 -- the lengths of what is lent
-abbrev pub IsPad : Bor (List ℕ) → Type 0
-IsPad s = length s.now ≡ size cpu
+abbrev pub IsPad : List ℕ → Type 0
+IsPad s = length s ≡ size cpu
 
-abbrev pub IsVram : Bor (List ℕ) → Type 0
-IsVram s = length s.now ≡ size vdp
+abbrev pub IsVram : List ℕ → Type 0
+IsVram s = length s ≡ size vdp
 
-abbrev pub IsRegs : Bor (List ℕ) → Type 0
-IsRegs s = length s.now ≡ size register
+abbrev pub IsRegs : List ℕ → Type 0
+IsRegs s = length s ≡ size register
 
 -- ---- one memory, whichever it is
 
@@ -309,8 +335,8 @@ HasCells Vdp n = n ≡ size vdp
 HasCells Register n = n ≡ size register
 HasCells (Grom w) n = Unit {0}
 
-abbrev pub IsOf : Memory → Bor (List ℕ) → Type 0
-IsOf k s = HasCells k (length s.now)
+abbrev pub IsOf : Memory → List ℕ → Type 0
+IsOf k s = HasCells k (length s)
 
 -- any but the image, whose bytes are read by the map
 abbrev pub IsRam : Memory → Type 0
@@ -354,7 +380,7 @@ with k c s m =
     (upon (kind_of k) m.vram c m.vram m.vram) (upon (kind_of k) m.regs m.regs c m.regs) s
 
 -- a byte is loaded from one of its cells: in any machine that has these, by any ring, whatever its map is
-abbrev pub Loads : Memory → ℕ → Lent → Now → Now → Type 0
+abbrev pub Loads : Memory → ℕ → SeenLent → Now → Now → Type 0
 Loads k a s m n =
     (x : Mem) (r z : List ℕ)
     → Goes (stand (answer_of m) m.pc (with k s.entry.now (seen x.journal r x.older x.place m.used) x) z r) (peek (kind_of k) a) n.byte
@@ -381,5 +407,5 @@ abbrev pub found : Mark → calls.Find
 found r = found_at r.words (flagged r.pc r.source)
 
 -- it is found among the used words of a journal, by an image of n bytes and its writable groups; or its address and flag are 0
-abbrev pub Finds : ℕ → ℕ → Lent → Book → Mark → Type 0
+abbrev pub Finds : ℕ → ℕ → SeenLent → Book → Mark → Type 0
 Finds n w j b r = (found r ≡ calls.scan (area_of n w) b.used (turned b.ring b.place j.entry.now)) × (r.words ≡ 0 → (r.pc ≡ 0) × (r.source ≡ false))

@@ -4,7 +4,7 @@ ghost use Rattle.std.specs.Prelude.{◌≡◌};
 ghost use Rattle.rules.specs.Answers;
 ghost use Rattle.machine.specs.Meaning.{why_of};
 
-#[derive(Drop)]
+#[derive(Clone, Copy)]
 pub enum Why {
     // "ended: opcode >0B (EXIT); nothing changes, pc stays on it"
     Ended,

@@ -2,7 +2,7 @@
 ghost use Rattle.std.specs.Prelude.{◌≡◌, ◌/◌};
 ghost use Rattle.rules.specs.Machine.{bit, grom, group};
 ghost use Rattle.rules.specs.Rules.{next_byte, next_word, grom_byte, poke};
-ghost use Rattle.machine.specs.Meaning.{◌&◌, Does, Gives, Groups, Image, Journal, Map, Ring};
+ghost use Rattle.machine.specs.Meaning.{◌&◌, Does, Gives, Groups, Image, Journal, Map, Ring, SeenImage};
 
 use crate::answers::Why;
 use crate::memory::Memory;
@@ -10,7 +10,7 @@ use crate::state::Now;
 use crate::{journal, memory, state};
 
 pub fn next_byte(image: &[u8], map: &mut [u8], m: Now) -> Now
-    ensures { Gives result.byte next_byte (Image image & Map map) m result }
+    ensures { Gives result.byte next_byte (SeenImage image & Map map) m result }
 {
     let pc = m.pc;
     let at = pc as usize;
@@ -25,7 +25,7 @@ pub fn next_byte(image: &[u8], map: &mut [u8], m: Now) -> Now
 }
 
 pub fn grom_byte(image: &[u8], map: &mut [u8], m: Now, a: u16) -> Now
-    ensures { Gives result.byte (grom_byte a) (Image image & Map map) m result }
+    ensures { Gives result.byte (grom_byte a) (SeenImage image & Map map) m result }
 {
     let at = a as usize;
     if m.answer != 0 {
@@ -39,7 +39,7 @@ pub fn grom_byte(image: &[u8], map: &mut [u8], m: Now, a: u16) -> Now
 }
 
 pub fn next_word(image: &[u8], map: &mut [u8], m: Now) -> Now
-    ensures { Gives result.word next_word (Image image & Map map) m result }
+    ensures { Gives result.word next_word (SeenImage image & Map map) m result }
 {
     let high = next_byte(image, map, m);
     let low = next_byte(image, map, high);

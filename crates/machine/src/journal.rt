@@ -138,7 +138,7 @@ pub fn sound(w: u32, size: usize, groups: u8) -> bool
 }
 
 // The newest mark: how many words it and those above it are, 0 where there is no sound record, its address and its source flag.
-#[derive(Drop)]
+#[derive(Clone, Copy)]
 pub struct Mark {
     pub words: usize,
     pub pc: u16,

@@ -10,7 +10,7 @@ use crate::state::Now;
 use crate::{cells, grom, state};
 use ring::book;
 
-#[derive(Drop)]
+#[derive(Clone, Copy)]
 pub enum Memory {
     Cpu,
     Vdp,
@@ -70,7 +70,7 @@ fn kind(k: Memory) -> u32
 
 // Of the image the reads are marked, which is not done here.
 pub fn load(memory: &[u8], m: Now, k: Memory, at: usize) -> Now
-    requires { IsOf k memory × IsRam k }
+    requires { IsOf k memory.now × IsRam k }
     ensures { Loads k at memory m result }
 {
     if m.answer != 0 {
@@ -92,7 +92,7 @@ pub fn store(
     at: usize,
     b: u8,
 ) -> Now
-    requires { IsOf k memory × IsNear k at }
+    requires { IsOf k memory.old × IsNear k at }
     ensures { Stores k at b memory journal ring m result }
 {
     let used = m.used;

@@ -3,22 +3,22 @@ ghost use Rattle.std.specs.Prelude.{◌<◌, ◌^◌};
 ghost use Rattle.rules.specs.Machine.{cpu};
 ghost use Rattle.rules.specs.Rules.{peek, peek_word, poke};
 ghost use Rattle.rules.specs.Operands.{poke_word};
-ghost use Rattle.machine.specs.Meaning.{◌&◌, Does, Gives, IsPad, Journal, Pad, Ring};
+ghost use Rattle.machine.specs.Meaning.{◌&◌, Does, Gives, IsPad, Journal, Pad, Ring, SeenPad};
 
 use crate::memory::Memory;
 use crate::state::Now;
 use crate::{memory, state};
 
 pub fn peek_pad(pad: &[u8], m: Now, at: usize) -> Now
-    requires { IsPad pad }
-    ensures { Gives result.byte (peek cpu at) (Pad pad) m result }
+    requires { IsPad pad.now }
+    ensures { Gives result.byte (peek cpu at) (SeenPad pad) m result }
 {
     memory::load(pad, m, Memory::Cpu, at)
 }
 
 pub fn peek_pad_word(pad: &[u8], m: Now, at: usize) -> Now
-    requires { IsPad pad × (at < 2 ^ 32) }
-    ensures { Gives result.word (peek_word cpu at) (Pad pad) m result }
+    requires { IsPad pad.now × (at < 2 ^ 32) }
+    ensures { Gives result.word (peek_word cpu at) (SeenPad pad) m result }
 {
     let high = peek_pad(pad, m, at);
     let beyond = at + 1;
@@ -34,7 +34,7 @@ pub fn poke_pad(
     at: usize,
     b: u8,
 ) -> Now
-    requires { IsPad pad }
+    requires { IsPad pad.old }
     ensures { Does (poke cpu at b) (Pad pad & Journal journal & Ring ring) m result }
 {
     memory::store(pad, journal, ring, m, Memory::Cpu, at, b)
@@ -49,7 +49,7 @@ pub fn poke_pad_word(
     at: usize,
     w: u16,
 ) -> Now
-    requires { IsPad pad × (at < 2 ^ 32) }
+    requires { IsPad pad.old × (at < 2 ^ 32) }
     ensures { Does (poke_word cpu at w) (Pad pad & Journal journal & Ring ring) m result }
 {
     let high = number::words::high_of(w);

@@ -15,7 +15,7 @@ pub fn poke_reg(
     at: usize,
     b: u8,
 ) -> Now
-    requires { IsRegs regs }
+    requires { IsRegs regs.old }
     ensures { Does (poke register at b) (Regs regs & Journal journal & Ring ring) m result }
 {
     memory::store(regs, journal, ring, m, Memory::Register, at, b)

@@ -9,7 +9,7 @@ use crate::answers;
 use crate::answers::Why;
 
 // How many of the journal's words are used, pc, the word or the byte that was read last, and the answer so far with its address.
-#[derive(Drop)]
+#[derive(Clone, Copy)]
 pub struct Now {
     pub used: usize,
     pub pc: u16,

@@ -6,7 +6,7 @@ ghost use Rattle.rules.specs.Arithmetic.{span};
 use crate::sums::half;
 
 // A number of two widths, or a quotient and its rest.
-#[derive(Drop)]
+#[derive(Clone, Copy)]
 pub struct Halves {
     pub high: u16,
     pub low: u16,

@@ -9,7 +9,7 @@ use machine::answers::Why;
 
 // What an opcode does. Flags say, in this order: the source is immediate, the operands are words.
 // A branch has the condition bit that takes it, and the upper bits of its target.
-#[derive(Drop)]
+#[derive(Clone, Copy)]
 pub enum Task {
     Rtn,
     Rtnc,
@@ -34,7 +34,7 @@ pub enum Task {
 }
 
 // The start of a list has flags too: the source is immediate, the operands are words.
-#[derive(Drop)]
+#[derive(Clone, Copy)]
 pub enum Class {
     Stops(Why),
     Does(Task),

@@ -18,7 +18,7 @@ pub fn perform(
     groups: u8,
     task: Task,
 ) -> Now
-    requires { IsPad pad × IsVram vram × IsRegs regs }
+    requires { IsPad pad.old × IsVram vram.old × IsRegs regs.old }
     ensures { Does (rule_of (task_of task)) (Image image & Map map & Groups groups & Pad pad & Vram vram & Regs regs & Journal journal & Ring ring) m result }
 {
     match task {

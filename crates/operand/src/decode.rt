@@ -2,7 +2,7 @@
 ghost use Rattle.std.specs.Prelude.{◌≡◌, ◌+◌, ◌-◌, ◌≤◌};
 ghost use Rattle.rules.specs.Operands;
 ghost use Rattle.rules.specs.Operands.{on_data_stack, operand_of};
-ghost use Rattle.machine.specs.Meaning.{◌&◌, Gives, Image, IsPad, Journal, Map, Nothing, Pad, Ring};
+ghost use Rattle.machine.specs.Meaning.{◌&◌, Gives, IsPad, Journal, Map, Nothing, Pad, Ring, SeenImage, SeenPad};
 ghost use Rattle.operand.specs.Meaning.{cell_of, place_of, Locates, Names};
 
 use crate::places;
@@ -14,14 +14,14 @@ use machine::{cells, grom, pad as cpu, state};
 // ---- the offset
 
 fn short_offset(image: &[u8], map: &mut [u8], m: Now, aaaa: u8) -> Now
-    ensures { Gives result.word (Operands.short_offset aaaa) (Image image & Map map) m result }
+    ensures { Gives result.word (Operands.short_offset aaaa) (SeenImage image & Map map) m result }
 {
     let low = grom::next_byte(image, map, m);
     state::give_word(low, number::words::word_of(aaaa, low.byte))
 }
 
 fn offset(image: &[u8], map: &mut [u8], m: Now, aaaa: u8) -> Now
-    ensures { Gives result.word (Operands.offset aaaa) (Image image & Map map) m result }
+    ensures { Gives result.word (Operands.offset aaaa) (SeenImage image & Map map) m result }
 {
     if aaaa == 15 {
         return grom::next_word(image, map, m);
@@ -30,8 +30,8 @@ fn offset(image: &[u8], map: &mut [u8], m: Now, aaaa: u8) -> Now
 }
 
 fn add_index(image: &[u8], map: &mut [u8], pad: &[u8], m: Now, a: u16) -> Now
-    requires { IsPad pad }
-    ensures { Gives result.word (Operands.add_index a) (Image image & Map map & Pad pad) m result }
+    requires { IsPad pad.now }
+    ensures { Gives result.word (Operands.add_index a) (SeenImage image & Map map & SeenPad pad) m result }
 {
     let x = grom::next_byte(image, map, m);
     let at = x.byte as usize;
@@ -41,8 +41,8 @@ fn add_index(image: &[u8], map: &mut [u8], pad: &[u8], m: Now, a: u16) -> Now
 
 // With X, a pad word is added, before any indirection.
 pub fn indexed(image: &[u8], map: &mut [u8], pad: &[u8], m: Now, x: bool, a: u16) -> Now
-    requires { IsPad pad }
-    ensures { Gives result.word (Operands.indexed x a) (Image image & Map map & Pad pad) m result }
+    requires { IsPad pad.now }
+    ensures { Gives result.word (Operands.indexed x a) (SeenImage image & Map map & SeenPad pad) m result }
 {
     if x {
         return add_index(image, map, pad, m, a);
@@ -53,8 +53,8 @@ pub fn indexed(image: &[u8], map: &mut [u8], pad: &[u8], m: Now, x: bool, a: u16
 // ---- the cell that an offset names
 
 fn through_word(pad: &[u8], m: Now, a: u16) -> Located
-    requires { IsPad pad }
-    ensures { Names (Operands.through_word a) (Pad pad) m result }
+    requires { IsPad pad.now }
+    ensures { Names (Operands.through_word a) (SeenPad pad) m result }
 {
     let at = a as usize;
     let w = cpu::peek_pad_word(pad, m, at);
@@ -65,8 +65,8 @@ fn through_word(pad: &[u8], m: Now, a: u16) -> Located
 }
 
 fn through_byte(pad: &[u8], m: Now, a: u16) -> Located
-    requires { IsPad pad }
-    ensures { Names (Operands.through_byte a) (Pad pad) m result }
+    requires { IsPad pad.now }
+    ensures { Names (Operands.through_byte a) (SeenPad pad) m result }
 {
     let at = a as usize;
     let b = cpu::peek_pad(pad, m, at);
@@ -99,7 +99,7 @@ fn down(b: u8) -> u8
 
 // A pop off the data stack: the pointer's test, its store, and the cell.
 fn pop_cell(pad: &mut [u8], journal: &mut [u32], ring: &mut [usize], m: Now) -> Located
-    requires { IsPad pad }
+    requires { IsPad pad.old }
     ensures { Names Operands.pop_cell (Pad pad & Journal journal & Ring ring) m result }
 {
     let p = cpu::peek_pad(pad, m, cells::DATA_POINTER);
@@ -114,7 +114,7 @@ fn pop_cell(pad: &mut [u8], journal: &mut [u32], ring: &mut [usize], m: Now) -> 
 }
 
 fn through_pad(pad: &mut [u8], journal: &mut [u32], ring: &mut [usize], m: Now, a: u16) -> Located
-    requires { IsPad pad }
+    requires { IsPad pad.old }
     ensures { Names (Operands.through_pad a) (Pad pad & Journal journal & Ring ring) m result }
 {
     if a as usize == cells::STATUS {
@@ -133,7 +133,7 @@ fn named(
     i: bool,
     a: u16,
 ) -> Located
-    requires { IsPad pad }
+    requires { IsPad pad.old }
     ensures { Names (Operands.named v i a) (Pad pad & Journal journal & Ring ring) m result }
 {
     if v {
@@ -164,8 +164,8 @@ fn far_cell(
     m: Now,
     b: u8,
 ) -> Located
-    requires { IsPad pad }
-    ensures { Names (Operands.far_cell b) (Image image & Map map & Pad pad & Journal journal & Ring ring) m result }
+    requires { IsPad pad.old }
+    ensures { Names (Operands.far_cell b) (SeenImage image & Map map & Pad pad & Journal journal & Ring ring) m result }
 {
     let a = offset(image, map, m, number::bits::nibble(b));
     let e = indexed(image, map, pad, a, number::bits::bit(6, b), a.word);
@@ -189,8 +189,8 @@ fn any_cell(
     m: Now,
     b: u8,
 ) -> Located
-    requires { IsPad pad }
-    ensures { Names (Operands.any_cell b) (Image image & Map map & Pad pad & Journal journal & Ring ring) m result }
+    requires { IsPad pad.old }
+    ensures { Names (Operands.any_cell b) (SeenImage image & Map map & Pad pad & Journal journal & Ring ring) m result }
 {
     if b < 0x80 {
         let near = b as u16;
@@ -228,8 +228,8 @@ pub fn operand(
     m: Now,
     n: usize,
 ) -> Operand
-    requires { IsPad pad × (n ≤ 2) }
-    ensures { ((cell_of (place_of result)).at + n ≤ 16384) × Locates (operand_of n) (Image image & Map map & Pad pad & Journal journal & Ring ring) m result }
+    requires { IsPad pad.old × (n ≤ 2) }
+    ensures { ((cell_of (place_of result)).at + n ≤ 16384) × Locates (operand_of n) (SeenImage image & Map map & Pad pad & Journal journal & Ring ring) m result }
 {
     let first = grom::next_byte(image, map, m);
     let cell = any_cell(image, map, pad, journal, ring, first, first.byte);

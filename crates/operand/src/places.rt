@@ -10,20 +10,20 @@ use machine::answers::Why;
 use machine::cells;
 use machine::state::Now;
 
-#[derive(Drop)]
+#[derive(Clone, Copy)]
 pub enum Place {
     Cpu(u16),
     Vdp(u16),
 }
 
 // A place, with the state that goes on from it: the next pc stands there.
-#[derive(Drop)]
+#[derive(Clone, Copy)]
 pub struct Located {
     pub place: Place,
     pub now: Now,
 }
 
-#[derive(Drop)]
+#[derive(Clone, Copy)]
 pub enum Operand {
     At(Located),
     Refused(Now),

@@ -32,7 +32,7 @@ fn need_on_stack(m: Now, at: u16) -> Now
 
 // The pointer up by 2, which is the value given.
 pub fn raise(pad: &mut [u8], journal: &mut [u32], ring: &mut [usize], m: Now) -> Now
-    requires { IsPad pad }
+    requires { IsPad pad.old }
     ensures { Gives result.byte Instructions.raise (Pad pad & Journal journal & Ring ring) m result }
 {
     let p = machine::pad::peek_pad(pad, m, cells::SUB_POINTER);
@@ -44,7 +44,7 @@ pub fn raise(pad: &mut [u8], journal: &mut [u32], ring: &mut [usize], m: Now) ->
 }
 
 pub fn push_pc(pad: &mut [u8], journal: &mut [u32], ring: &mut [usize], m: Now) -> Now
-    requires { IsPad pad }
+    requires { IsPad pad.old }
     ensures { Does push_pc (Pad pad & Journal journal & Ring ring) m result }
 {
     let p = raise(pad, journal, ring, m);
@@ -53,7 +53,7 @@ pub fn push_pc(pad: &mut [u8], journal: &mut [u32], ring: &mut [usize], m: Now) 
 }
 
 pub fn pop_pc(pad: &mut [u8], journal: &mut [u32], ring: &mut [usize], m: Now) -> Now
-    requires { IsPad pad }
+    requires { IsPad pad.old }
     ensures { Does pop_pc (Pad pad & Journal journal & Ring ring) m result }
 {
     let p = machine::pad::peek_pad(pad, m, cells::SUB_POINTER);

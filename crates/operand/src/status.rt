@@ -12,7 +12,7 @@ pub fn set_condition(
     m: Now,
     c: bool,
 ) -> Now
-    requires { IsPad pad }
+    requires { IsPad pad.old }
     ensures { Does (set_condition c) (Pad pad & Journal journal & Ring ring) m result }
 {
     let s = machine::pad::peek_pad(pad, m, cells::STATUS);

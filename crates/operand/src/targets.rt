@@ -1,5 +1,5 @@
 // An operand that is read and then stored to.
-ghost use Rattle.machine.specs.Meaning.{◌&◌, Image, IsPad, IsVram, Journal, Map, Pad, Ring, Vram};
+ghost use Rattle.machine.specs.Meaning.{◌&◌, IsPad, IsVram, Journal, Map, Pad, Ring, SeenImage, SeenVram};
 ghost use Rattle.operand.specs.Meaning.{Targets};
 
 use crate::places::Located;
@@ -17,8 +17,8 @@ pub fn read_target(
     m: Now,
     wide: bool,
 ) -> Located
-    requires { IsPad pad × IsVram vram }
-    ensures { Targets wide (Image image & Map map & Pad pad & Vram vram & Journal journal & Ring ring) m result }
+    requires { IsPad pad.old × IsVram vram.now }
+    ensures { Targets wide (SeenImage image & Map map & Pad pad & SeenVram vram & Journal journal & Ring ring) m result }
 {
     let o = decode::operand(image, map, pad, journal, ring, m, values::byte_count(wide));
     let at = places::now_of(o);

@@ -4,7 +4,7 @@ ghost use Rattle.rules.specs.Rules.{give, peek, peek_word, poke};
 ghost use Rattle.rules.specs.Operands;
 ghost use Rattle.rules.specs.Operands.{byte_count, past, is_buffer, poke_word};
 ghost use Rattle.rules.specs.Arithmetic.{half, span};
-ghost use Rattle.machine.specs.Meaning.{◌&◌, Does, Gives, Image, IsPad, IsVram, Journal, Map, Nothing, Pad, Ring, Vram};
+ghost use Rattle.machine.specs.Meaning.{◌&◌, Does, Gives, IsPad, IsVram, Journal, Map, Nothing, Pad, Ring, SeenImage, SeenPad, SeenVram, Vram};
 ghost use Rattle.operand.specs.Meaning.{cell_of};
 
 use crate::places::Place;
@@ -33,8 +33,8 @@ fn widened(m: Now) -> Now
 // ---- reading
 
 fn byte_at(pad: &[u8], vram: &[u8], m: Now, place: Place) -> Now
-    requires { IsPad pad × IsVram vram }
-    ensures { Gives result.byte (peek (cell_of place).kind (cell_of place).at) (Pad pad & Vram vram) m result }
+    requires { IsPad pad.now × IsVram vram.now }
+    ensures { Gives result.byte (peek (cell_of place).kind (cell_of place).at) (SeenPad pad & SeenVram vram) m result }
 {
     match place {
         Place::Cpu(a) => {
@@ -49,8 +49,8 @@ fn byte_at(pad: &[u8], vram: &[u8], m: Now, place: Place) -> Now
 }
 
 fn word_at(pad: &[u8], vram: &[u8], m: Now, place: Place) -> Now
-    requires { IsPad pad × IsVram vram }
-    ensures { Gives result.word (peek_word (cell_of place).kind (cell_of place).at) (Pad pad & Vram vram) m result }
+    requires { IsPad pad.now × IsVram vram.now }
+    ensures { Gives result.word (peek_word (cell_of place).kind (cell_of place).at) (SeenPad pad & SeenVram vram) m result }
 {
     match place {
         Place::Cpu(a) => {
@@ -66,8 +66,8 @@ fn word_at(pad: &[u8], vram: &[u8], m: Now, place: Place) -> Now
 
 // What stands at a place, as it stands.
 pub fn standing(pad: &[u8], vram: &[u8], m: Now, wide: bool, place: Place) -> Now
-    requires { IsPad pad × IsVram vram }
-    ensures { (result.word < span (half wide)) × Gives result.word (Operands.standing wide (cell_of place)) (Pad pad & Vram vram) m result }
+    requires { IsPad pad.now × IsVram vram.now }
+    ensures { (result.word < span (half wide)) × Gives result.word (Operands.standing wide (cell_of place)) (SeenPad pad & SeenVram vram) m result }
 {
     if wide {
         return word_at(pad, vram, m, place);
@@ -85,8 +85,8 @@ fn refresh(
     m: Now,
     place: Place,
 ) -> Now
-    requires { IsPad pad × IsVram vram }
-    ensures { Does (Operands.refresh (cell_of place)) (Pad pad & Vram vram & Journal journal & Ring ring) m result }
+    requires { IsPad pad.old × IsVram vram.now }
+    ensures { Does (Operands.refresh (cell_of place)) (Pad pad & SeenVram vram & Journal journal & Ring ring) m result }
 {
     if places::is_buffer(place) {
         return screen::load_buffer(pad, vram, journal, ring, m);
@@ -104,8 +104,8 @@ pub fn value(
     wide: bool,
     place: Place,
 ) -> Now
-    requires { IsPad pad × IsVram vram }
-    ensures { (result.word < span (half wide)) × Gives result.word (Operands.value wide (cell_of place)) (Pad pad & Vram vram & Journal journal & Ring ring) m result }
+    requires { IsPad pad.old × IsVram vram.now }
+    ensures { (result.word < span (half wide)) × Gives result.word (Operands.value wide (cell_of place)) (Pad pad & SeenVram vram & Journal journal & Ring ring) m result }
 {
     let fresh = refresh(pad, vram, journal, ring, m, place);
     standing(pad, vram, fresh, wide, place)
@@ -122,7 +122,7 @@ fn store_byte(
     place: Place,
     b: u8,
 ) -> Now
-    requires { IsPad pad × IsVram vram }
+    requires { IsPad pad.old × IsVram vram.old }
     ensures { Does (poke (cell_of place).kind (cell_of place).at b) (Pad pad & Vram vram & Journal journal & Ring ring) m result }
 {
     match place {
@@ -146,7 +146,7 @@ fn store_word(
     place: Place,
     w: u16,
 ) -> Now
-    requires { IsPad pad × IsVram vram }
+    requires { IsPad pad.old × IsVram vram.old }
     ensures { Does (poke_word (cell_of place).kind (cell_of place).at w) (Pad pad & Vram vram & Journal journal & Ring ring) m result }
 {
     match place {
@@ -171,7 +171,7 @@ fn store_value(
     place: Place,
     v: u16,
 ) -> Now
-    requires { IsPad pad × IsVram vram }
+    requires { IsPad pad.old × IsVram vram.old }
     ensures { Does (Operands.store_value wide (cell_of place) v) (Pad pad & Vram vram & Journal journal & Ring ring) m result }
 {
     if wide {
@@ -208,8 +208,8 @@ fn echo(
     place: Place,
     b: u8,
 ) -> Now
-    requires { IsPad pad × IsVram vram }
-    ensures { Does (Operands.echo (past (byte_count wide - 1) (cell_of place)) b) (Pad pad & Vram vram & Journal journal & Ring ring) m result }
+    requires { IsPad pad.now × IsVram vram.old }
+    ensures { Does (Operands.echo (past (byte_count wide - 1) (cell_of place)) b) (SeenPad pad & Vram vram & Journal journal & Ring ring) m result }
 {
     if ends_in_buffer(wide, place) {
         return screen::to_screen(pad, vram, journal, ring, m, b);
@@ -228,7 +228,7 @@ pub fn result(
     place: Place,
     v: u16,
 ) -> Now
-    requires { IsPad pad × IsVram vram }
+    requires { IsPad pad.old × IsVram vram.old }
     ensures { Does (Operands.result wide (cell_of place) v) (Pad pad & Vram vram & Journal journal & Ring ring) m result }
 {
     let stored = store_value(pad, vram, journal, ring, m, wide, place, v);
@@ -248,8 +248,8 @@ pub fn operand_value(
     m: Now,
     wide: bool,
 ) -> Now
-    requires { IsPad pad × IsVram vram }
-    ensures { (result.word < span (half wide)) × Gives result.word (Operands.operand_value wide) (Image image & Map map & Pad pad & Vram vram & Journal journal & Ring ring) m result }
+    requires { IsPad pad.old × IsVram vram.now }
+    ensures { (result.word < span (half wide)) × Gives result.word (Operands.operand_value wide) (SeenImage image & Map map & Pad pad & SeenVram vram & Journal journal & Ring ring) m result }
 {
     let o = decode::operand(image, map, pad, journal, ring, m, byte_count(wide));
     let at = places::now_of(o);
@@ -258,7 +258,7 @@ pub fn operand_value(
 
 // The bytes at pc.
 pub fn immediate(image: &[u8], map: &mut [u8], m: Now, wide: bool) -> Now
-    ensures { (result.word < span (half wide)) × Gives result.word (Operands.immediate wide) (Image image & Map map) m result }
+    ensures { (result.word < span (half wide)) × Gives result.word (Operands.immediate wide) (SeenImage image & Map map) m result }
 {
     if wide {
         return grom::next_word(image, map, m);
@@ -278,8 +278,8 @@ pub fn source(
     imm: bool,
     wide: bool,
 ) -> Now
-    requires { IsPad pad × IsVram vram }
-    ensures { (result.word < span (half wide)) × Gives result.word (Operands.source imm wide) (Image image & Map map & Pad pad & Vram vram & Journal journal & Ring ring) m result }
+    requires { IsPad pad.old × IsVram vram.now }
+    ensures { (result.word < span (half wide)) × Gives result.word (Operands.source imm wide) (SeenImage image & Map map & Pad pad & SeenVram vram & Journal journal & Ring ring) m result }
 {
     if imm {
         return immediate(image, map, m, wide);

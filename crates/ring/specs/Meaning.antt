@@ -1,6 +1,6 @@
 -- What the journal's words and the book beside them say, in the words of the rules.
 use Rattle.std.specs.Prelude.{◌≡◌, Bool, true, false, List, [], ◌∷◌, ℕ, ◌+◌, ◌-◌, ◌%◌, ◌^◌, ltb, length, get_or, take}
-use Rattle.std.specs.Borrow.{Bor}
+use Rattle.std.specs.Borrow.{MutBor}
 use denote.Triple.Both.{Both}
 use Rattle.rules.specs.Machine.{pick, Mem, mem}
 use Rattle.rules.specs.Journal.{turned, until_mark, place_on, forget, lay}
@@ -17,7 +17,7 @@ unfoldable pub slot_of : Bool → ℕ → ℕ → ℕ → ℕ
 slot_of ring a n i = pick ring ((a + i) % n) i
 
 -- the words and the book become what a function makes of them
-abbrev pub Becomes : (Mem → Mem) → Both (Bor (List ℕ)) (Bor (List ℕ)) → Book → Book → Type 0
+abbrev pub Becomes : (Mem → Mem) → Both (MutBor (List ℕ)) (MutBor (List ℕ)) → Book → Book → Type 0
 Becomes f j b c = (x : Mem) → booked j.exit.now c x ≡ f (booked j.entry.now b x)
 
 -- ---- a step in a ring. Its words are laid from the first free place on, and over older words where no other place is left: so what the rules have dropped is
@@ -68,7 +68,7 @@ carrying s x = mem x.image x.groups x.pad x.vram x.regs s.journal s.used s.older
 abbrev pub Laid : ℕ → Mem → Mem → Type 0
 Laid w m c = (room (spare m) ≡ true) × (c ≡ lay w (spare m))
 
-abbrev pub Lays : ℕ → Both (Bor (List ℕ)) (Bor (List ℕ)) → Both (Bor (List ℕ)) (Bor (List ℕ)) → ℕ → Type 0
+abbrev pub Lays : ℕ → Both (MutBor (List ℕ)) (MutBor (List ℕ)) → Both (MutBor (List ℕ)) (MutBor (List ℕ)) → ℕ → Type 0
 Lays w j ring u =
     (ring.exit.now ≡ ring.entry.now)
     × ((o a : ℕ) → Laid w (seen j.entry.now ring.entry.now o a u) (seen j.exit.now ring.exit.now o a (u + 1)))
@@ -78,6 +78,6 @@ abbrev pub lent_by : ℕ → Book → List ℕ
 lent_by n b = pick b.ring ((b.place + b.used) % n ∷ b.used ∷ []) []
 
 -- the book of that journal at the end of such a step
-abbrev pub Closes : Both (Bor (List ℕ)) (Bor (List ℕ)) → Book → ℕ → Book → Type 0
+abbrev pub Closes : Both (MutBor (List ℕ)) (MutBor (List ℕ)) → Book → ℕ → Book → Type 0
 Closes j b u c =
     booked j.exit.now c (alone [] 0 0 0 false) ≡ seen j.entry.now (lent_by (length j.entry.now) b) b.used b.place u

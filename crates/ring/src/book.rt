@@ -5,7 +5,7 @@ ghost use Rattle.ring.specs.Meaning.{slot_of, Becomes, Closes, Lays};
 
 // How many words are used, how many of them are of steps before the one that is being made, the place of the oldest, and whether whole oldest steps are
 // dropped.
-#[derive(Drop)]
+#[derive(Clone, Copy)]
 pub struct Book {
     pub used: usize,
     pub older: usize,

@@ -9,7 +9,7 @@ use lib.Dec.{ltb, lit<}
 use borrow.Author.Tests.{ltb-true, ltb-false, leb-false}
 use Rattle.rules.specs.Machine.{pick, reach}
 use Rattle.rules.specs.Answers.{Why, ended, no_such, needs_host, off_cpu, off_vdp, off_grom, off_stack, too_long, no_room, wrong_length, no_record, off_register, too_coarse, read_only, output_full}
-use Rattle.rules.specs.Answers.{number, address, Answer, answer_for}
+use Rattle.rules.specs.Answers.{Answer, answer_for}
 use Rattle.rules.specs.Operands.{Cell, in_reach, first_out}
 use Rattle.rules.specs.Demands.{Listed}
 

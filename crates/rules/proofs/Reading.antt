@@ -4,9 +4,9 @@ use mathlib.Core.Bool.{Bool, true, false}
 use mathlib.Core.List.{List, [], ◌∷◌, ◌++◌, append_assoc}
 use Prim.Native.Nat.{ℕ}
 use lib.ListN.{length, set, length-set}
-use Rattle.rules.specs.Machine.{pick, Kind, cpu, vdp, register, Mem}
+use Rattle.rules.specs.Machine.{Kind, Mem}
 use Rattle.rules.specs.Answers.{Why}
-use Rattle.rules.specs.Rules.{Act, load, store, send, Rule, give, refuse, act, ◌>>=◌, Out, got, stopped, then, perform, exec, after, valued, need, poke}
+use Rattle.rules.specs.Rules.{Act, Rule, give, refuse, act, ◌>>=◌, Out, got, stopped, then, perform, exec, after, valued, need, poke}
 use Rattle.rules.specs.Reads.{act_reads, reads_then, reads, reads_after, marked}
 
 -- ---- one rule after the other

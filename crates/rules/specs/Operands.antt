@@ -1,5 +1,5 @@
 -- 01, "Operands": the cell that an operand names, what is read there, and how a result is stored.
-use Rattle.std.specs.Prelude.{Bool, true, false, ℕ, ◌+◌, ◌-◌, ◌*◌, ◌%◌, ltb, leb, eqb}
+use Rattle.std.specs.Prelude.{Bool, false, ℕ, ◌+◌, ◌-◌, ◌*◌, ◌%◌, ltb, leb, eqb}
 use Rattle.rules.specs.Machine.{pick, ◌also◌, bit, Kind, cpu, vdp, upon, reach, joined, high_byte, low_byte, data_pointer, status, buffer, ypt, xpt}
 use Rattle.rules.specs.Answers.{outside, off_stack}
 use Rattle.rules.specs.Rules.{Rule, Deed, give, ◌>>=◌, ◌>>◌, next_byte, next_word, peek, peek_word, poke, need}

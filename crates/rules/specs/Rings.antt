@@ -1,5 +1,5 @@
 -- Facts of 02, item 5: calls over a small journal, and the answers, the words and the place that must come out.
-use Rattle.std.specs.Prelude.{Bool, true, false, List, [], ◌∷◌, ◌++◌, ℕ, ◌+◌, eqb, replicate}
+use Rattle.std.specs.Prelude.{Bool, true, false, List, [], ◌∷◌, ◌++◌, ℕ, eqb, replicate}
 use Rattle.rules.specs.Machine.{◌also◌, cpu, vdp, register, size, group, mem, State, state}
 use Rattle.rules.specs.Journal.{turned}
 use Rattle.rules.specs.Calls.{instruction, answer, left}

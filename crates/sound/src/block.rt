@@ -2,14 +2,14 @@
 ghost use Rattle.std.specs.Prelude.{◌≡◌};
 ghost use Rattle.rules.specs.Sound;
 ghost use Rattle.rules.specs.Sound.{send_block};
-ghost use Rattle.machine.specs.Meaning.{◌&◌, Gives, Image, Map, IsVram, Vram};
+ghost use Rattle.machine.specs.Meaning.{◌&◌, Gives, IsVram, Map, SeenImage, SeenVram};
 ghost use Rattle.sound.specs.Meaning.{Plays, room_in, due_of};
 
 use crate::list;
 use machine::state::Now;
 
 // What a block leaves: the address and the source of the one after it, how many ticks on that is due, and how many bytes were sent.
-#[derive(Drop)]
+#[derive(Clone, Copy)]
 pub struct Next {
     pub now: Now,
     pub list: u16,
@@ -29,8 +29,8 @@ fn send_block(
     a: u16,
     n: u8,
 ) -> Next
-    requires { IsVram vram }
-    ensures { Plays (due_of result) (send_block (room_in output) source a n) (Image image & Map map & Vram vram) output result.sent m result.now }
+    requires { IsVram vram.now }
+    ensures { Plays (due_of result) (send_block (room_in output) source a n) (SeenImage image & Map map & SeenVram vram) output result.sent m result.now }
 {
     let first = number::addresses::plus(a, 1);
     let last = number::addresses::plus(a, n as u16 + 1);
@@ -48,8 +48,8 @@ fn send_block(
 
 // A new address, in one source or the other.
 fn leap(image: &[u8], map: &mut [u8], vram: &[u8], m: Now, source: bool, a: u16, to: bool) -> Next
-    requires { IsVram vram }
-    ensures { (result.sent ≡ 0) × Gives (due_of result) (Sound.leap source a to) (Image image & Map map & Vram vram) m result.now }
+    requires { IsVram vram.now }
+    ensures { (result.sent ≡ 0) × Gives (due_of result) (Sound.leap source a to) (SeenImage image & Map map & SeenVram vram) m result.now }
 {
     let first = number::addresses::plus(a, 1);
     let second = number::addresses::plus(a, 2);
@@ -75,8 +75,8 @@ pub fn block(
     a: u16,
     n: u8,
 ) -> Next
-    requires { IsVram vram }
-    ensures { Plays (due_of result) (Sound.block (room_in output) source a n) (Image image & Map map & Vram vram) output result.sent m result.now }
+    requires { IsVram vram.now }
+    ensures { Plays (due_of result) (Sound.block (room_in output) source a n) (SeenImage image & Map map & SeenVram vram) output result.sent m result.now }
 {
     if n == 0 {
         return leap(image, map, vram, m, source, a, source);

@@ -1,7 +1,7 @@
 // The bytes of a list: read from GROM or from VDP RAM, and sent to a lent output.
 ghost use Rattle.std.specs.Prelude.{◌-◌};
 ghost use Rattle.rules.specs.Sound.{list_byte, send_next, send_bytes};
-ghost use Rattle.machine.specs.Meaning.{◌&◌, Gives, Image, Map, IsVram, Nothing, Vram};
+ghost use Rattle.machine.specs.Meaning.{◌&◌, Gives, IsVram, Map, Nothing, SeenImage, SeenVram};
 ghost use Rattle.sound.specs.Meaning.{AddsOne, Plays, room_in, send_byte};
 
 use machine::answers::Why;
@@ -9,7 +9,7 @@ use machine::state;
 use machine::state::Now;
 
 // The state, and how many bytes of the output are in use.
-#[derive(Drop)]
+#[derive(Clone, Copy)]
 pub struct Sent {
     pub now: Now,
     pub count: usize,
@@ -17,8 +17,8 @@ pub struct Sent {
 
 // A byte of a list.
 pub fn list_byte(image: &[u8], map: &mut [u8], vram: &[u8], m: Now, source: bool, a: u16) -> Now
-    requires { IsVram vram }
-    ensures { Gives result.byte (list_byte source a) (Image image & Map map & Vram vram) m result }
+    requires { IsVram vram.now }
+    ensures { Gives result.byte (list_byte source a) (SeenImage image & Map map & SeenVram vram) m result }
 {
     if source {
         let at = a as usize;
@@ -59,8 +59,8 @@ fn send_next(
     source: bool,
     a: u16,
 ) -> Sent
-    requires { IsVram vram }
-    ensures { AddsOne (send_next (room_in output - sent) source a) (Image image & Map map & Vram vram) output sent m result }
+    requires { IsVram vram.now }
+    ensures { AddsOne (send_next (room_in output - sent) source a) (SeenImage image & Map map & SeenVram vram) output sent m result }
 {
     let b = list_byte(image, map, vram, m, source, a);
     send_byte(output, b, sent, b.byte)
@@ -77,8 +77,8 @@ pub fn send_bytes(
     a: u16,
     n: u8,
 ) -> Sent
-    requires { IsVram vram }
-    ensures { Plays tt (send_bytes (room_in output) source a n) (Image image & Map map & Vram vram) output result.count m result.now }
+    requires { IsVram vram.now }
+    ensures { Plays tt (send_bytes (room_in output) source a n) (SeenImage image & Map map & SeenVram vram) output result.count m result.now }
 {
     let mut x = m;
     let mut at = a;

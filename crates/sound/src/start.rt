@@ -2,7 +2,7 @@
 ghost use Rattle.std.specs.Prelude.{◌≡◌, ltb};
 ghost use Rattle.rules.specs.Machine.{◌also◌};
 ghost use Rattle.rules.specs.Sound.{in_pad, start_rule};
-ghost use Rattle.machine.specs.Meaning.{◌&◌, Gives, Image, IsPad, IsVram, Journal, Map, Pad, Ring, Vram};
+ghost use Rattle.machine.specs.Meaning.{◌&◌, Gives, IsPad, IsVram, Journal, Map, Pad, Ring, SeenImage, SeenVram};
 ghost use Rattle.operand.specs.Meaning.{cell_of};
 
 use machine::answers::Why;
@@ -11,7 +11,7 @@ use machine::state::Now;
 use operand::places::Place;
 
 // The state, and the source flag.
-#[derive(Drop)]
+#[derive(Clone, Copy)]
 pub struct Started {
     pub now: Now,
     pub source: bool,
@@ -39,8 +39,8 @@ pub fn start(
     imm: bool,
     wide: bool,
 ) -> Started
-    requires { IsPad pad × IsVram vram }
-    ensures { Gives result.source (start_rule imm wide) (Image image & Map map & Pad pad & Vram vram & Journal journal & Ring ring) m result.now }
+    requires { IsPad pad.old × IsVram vram.now }
+    ensures { Gives result.source (start_rule imm wide) (SeenImage image & Map map & Pad pad & SeenVram vram & Journal journal & Ring ring) m result.now }
 {
     let target = operand::targets::read_target(image, map, pad, vram, journal, ring, m, wide);
     let read = target.now;

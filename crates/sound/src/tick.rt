@@ -1,7 +1,7 @@
 // A tick past its mark: the count goes down, and the block that is then due is sent.
 ghost use Rattle.rules.specs.Sound;
 ghost use Rattle.rules.specs.Sound.{due_block, count_down, tick_rule};
-ghost use Rattle.machine.specs.Meaning.{◌&◌, Does, Image, IsPad, IsVram, Journal, Map, Pad, Ring, Vram};
+ghost use Rattle.machine.specs.Meaning.{◌&◌, Does, IsPad, IsVram, Journal, Map, Pad, Ring, SeenImage, SeenVram};
 ghost use Rattle.sound.specs.Meaning.{Ticks, room_in};
 
 use crate::{block, list};
@@ -10,7 +10,7 @@ use machine::state::Now;
 use operand::stacks;
 
 // What a tick leaves: the state, the source flag, and how many bytes were sent.
-#[derive(Drop)]
+#[derive(Clone, Copy)]
 pub struct Ticked {
     pub now: Now,
     pub source: bool,
@@ -19,7 +19,7 @@ pub struct Ticked {
 
 // A block in GROM is read between a push and a pop of pc.
 fn opened(pad: &mut [u8], journal: &mut [u32], ring: &mut [usize], m: Now, source: bool) -> Now
-    requires { IsPad pad }
+    requires { IsPad pad.old }
     ensures { Does (Sound.opened source) (Pad pad & Journal journal & Ring ring) m result }
 {
     if source {
@@ -29,7 +29,7 @@ fn opened(pad: &mut [u8], journal: &mut [u32], ring: &mut [usize], m: Now, sourc
 }
 
 fn closed(pad: &mut [u8], journal: &mut [u32], ring: &mut [usize], m: Now, source: bool) -> Now
-    requires { IsPad pad }
+    requires { IsPad pad.old }
     ensures { Does (Sound.closed source) (Pad pad & Journal journal & Ring ring) m result }
 {
     if source {
@@ -50,8 +50,8 @@ fn due_block(
     m: Now,
     source: bool,
 ) -> Ticked
-    requires { IsPad pad × IsVram vram }
-    ensures { Ticks (due_block (room_in output) source) (Image image & Map map & Pad pad & Vram vram & Journal journal & Ring ring) output m result }
+    requires { IsPad pad.old × IsVram vram.now }
+    ensures { Ticks (due_block (room_in output) source) (SeenImage image & Map map & Pad pad & SeenVram vram & Journal journal & Ring ring) output m result }
 {
     let a = machine::pad::peek_pad_word(pad, m, cells::LIST);
     let open = opened(pad, journal, ring, a, source);
@@ -80,8 +80,8 @@ fn count_down(
     source: bool,
     n: u8,
 ) -> Ticked
-    requires { IsPad pad × IsVram vram }
-    ensures { Ticks (count_down (room_in output) source n) (Image image & Map map & Pad pad & Vram vram & Journal journal & Ring ring) output m result }
+    requires { IsPad pad.old × IsVram vram.now }
+    ensures { Ticks (count_down (room_in output) source n) (SeenImage image & Map map & Pad pad & SeenVram vram & Journal journal & Ring ring) output m result }
 {
     let now = machine::pad::poke_pad(pad, journal, ring, m, cells::COUNT, n);
     if n == 0 {
@@ -106,8 +106,8 @@ pub fn tick(
     m: Now,
     source: bool,
 ) -> Ticked
-    requires { IsPad pad × IsVram vram }
-    ensures { Ticks (tick_rule (room_in output) source) (Image image & Map map & Pad pad & Vram vram & Journal journal & Ring ring) output m result }
+    requires { IsPad pad.old × IsVram vram.now }
+    ensures { Ticks (tick_rule (room_in output) source) (SeenImage image & Map map & Pad pad & SeenVram vram & Journal journal & Ring ring) output m result }
 {
     let c = machine::pad::peek_pad(pad, m, cells::COUNT);
     if c.byte == 0 {

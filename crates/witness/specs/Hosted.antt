@@ -1,6 +1,6 @@
 -- What a host in C reads off the answer and `out`, as a reply or a report of bench.
 use Rattle.std.specs.Prelude.{◌≡◌, List, [], ◌∷◌, ℕ, length, get_or}
-use Rattle.std.specs.Borrow.{Bor}
+use Rattle.std.specs.Borrow.{MutBor}
 use denote.Triple.Both.{Both}
 use Rattle.rules.specs.Machine.{State}
 use Rattle.rules.specs.Calls.{run}
@@ -58,5 +58,5 @@ pub data HostCalled (ring w : ℕ) (s₀ : State) : List Said → State → Type
 -- ---- the viewer
 
 -- the bytes that an offset and a length name are those that the rules show
-abbrev pub Views : ℕ → Lent → Lent → ℕ → ℕ → Both (Bor ℕ) (Bor ℕ) → ℕ → Type 0
+abbrev pub Views : ℕ → Lent → Lent → ℕ → ℕ → Both (MutBor ℕ) (MutBor ℕ) → ℕ → Type 0
 Views m p v at len o n = named o.exit.now n (bytes_of m p.entry.now v.entry.now) ≡ shown m p.entry.now v.entry.now at len

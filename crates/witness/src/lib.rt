@@ -100,7 +100,7 @@ pub fn there_and_back(
 }
 
 // How many accepted steps are not taken back, and where the machine stands.
-#[derive(Drop)]
+#[derive(Clone, Copy)]
 pub struct Kept {
     pub steps: u32,
     pub at: At,

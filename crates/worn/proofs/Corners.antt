@@ -6,7 +6,7 @@ use Prim.Native.Nat.{ℕ, ◌/◌, ◌^◌}
 use native.Mathlib.Nat.{zero-div}
 use lib.ListN.{length, get_or}
 use lib.Seq.{ext_get_or}
-use Rattle.rules.specs.Machine.{pick, bit, group, mem, State, state}
+use Rattle.rules.specs.Machine.{pick, bit, group, State}
 use Rattle.rules.specs.Answers.{answer_for, wrong_length}
 use Rattle.rules.specs.Calls.{fits, Report, report, steps, run}
 use Rattle.rules.proofs.Tests.{false_true}
@@ -19,7 +19,7 @@ use Rattle.worn.proofs.Worn.{States, at, Reports, graded, Ran, fits_worn, steps_
 
 module _ (i j : List ℕ) (w : ℕ) (rs : List ℕ) (e : AgreeAt rs i j) where
   -- an own byte, if it was read, is one byte
-  byte_said : {b c : ℕ} (a : ℕ) → Byte i j w a b c → Bytes rs i j a b c
+  byte_said : (a : ℕ) {b c : ℕ} → Byte i j w a b c → Bytes rs i j a b c
   byte_said a (stored o) = one_byte
   byte_said a first = go (among a rs) refl
     where

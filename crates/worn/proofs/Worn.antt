@@ -8,14 +8,14 @@ use native.Mathlib.Omega.{arith}
 use lib.Dec.{ltb, eqb}
 use lib.ListN.{length, get_or}
 use borrow.Author.Tests.{eq-eqb}
-use Rattle.rules.specs.Machine.{pick, Kind, cpu, vdp, register, grom, extent, writable, Mem, mem, area, State, state, address, at_rest, onward}
+use Rattle.rules.specs.Machine.{pick, Kind, cpu, vdp, register, grom, extent, writable, Mem, area, State, state, address, at_rest, onward}
 use Rattle.rules.specs.Answers.{Answer, answer_for, no_room, read_only, outside}
 use Rattle.rules.specs.Journal.{mark_word, Store, store_of, make}
 use Rattle.rules.specs.Rules.{Act, next, ask, jump, load, store, send, Rule, give, refuse, act, Out, got, stopped, then, room, spare, perform, exec, after}
 use Rattle.rules.specs.Opcodes.{class_of}
 use Rattle.rules.specs.Sound.{Source}
 use Rattle.rules.specs.Tasks.{Plan, halt, go, plan_of}
-use Rattle.rules.specs.Calls.{instruction, fits, Reply, done, refused, left, take_mark, begin, attempt, taken, settle, fit_step, step, step_stores, Report, report, onto, steps, run}
+use Rattle.rules.specs.Calls.{instruction, fits, Reply, done, refused, left, take_mark, begin, attempt, taken, settle, fit_step, step, step_stores, Report, report, onto, steps}
 use Rattle.rules.proofs.Tests.{false_true}
 use Rattle.rules.proofs.Stores.{used_after, older_after}
 use Rattle.rules.proofs.Steps.{Tried, late, tried}

@@ -1,0 +1,13 @@
+-- Still after a refusal; 6 beyond the image; else the byte, which is marked.
+use mathlib.Core.Path.{refl}
+use Rattle.machine.proofs.Acts.{still, grom_beyond, grom_read}
+use Rattle.machine.proofs.grom.grom_byte.Goals as goal
+
+pub returns-then-m-ne0 : goal.returns-then-m-ne0
+returns-then-m-ne0 c = λ _. still c.if-m-ne0.true
+
+pub returns-then-image-at : goal.returns-then-image-at
+returns-then-image-at c = λ _. rw c.refused.ensures (grom_beyond c.if-m-ne0.false c.if-image-at.true)
+
+pub returns : goal.returns
+returns c = λ _. rw c.read.ensures (grom_read c.if-m-ne0.false c.if-image-at.false c.put.ensures refl)

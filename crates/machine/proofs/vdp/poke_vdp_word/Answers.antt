@@ -1,0 +1,13 @@
+-- Two stores in a row, of the word's two bytes.
+use Rattle.rules.specs.Machine.{vdp}
+use Rattle.rules.specs.Rules.{poke}
+use Rattle.rules.specs.Operands.{poke_word}
+use Rattle.machine.proofs.Chain.{seq, via}
+use Rattle.machine.proofs.vdp.poke_vdp_word.Goals as goal
+
+pub returns : goal.returns
+unfolding poke_word
+returns c =
+    λ _.
+    seq (via (poke vdp _) c.high_of-high.ensures (c.poke_vdp-first.ensures _))
+    (via (poke vdp _) c.low_of-low.ensures (c.poke_vdp.ensures _))
