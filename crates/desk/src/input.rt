@@ -72,7 +72,12 @@ fn to_front(text: &mut [u8], from: usize, have: usize) -> usize
 
 // What is left is moved to the front, and more is read after it. There is room for a byte: where there are no more than before, the input has ended.
 // Where the read fails, what is left is at the front all the same.
-pub fn refill<R: Read>(input: &mut R, text: &mut [u8], from: usize, have: usize) -> io::Result<usize>
+pub fn refill<R: Read>(
+    input: &mut R,
+    text: &mut [u8],
+    from: usize,
+    have: usize,
+) -> io::Result<usize>
     requires { (from ≤ have) × (have ≤ length text.old) × (have - from < length text.old) }
     ensures ok { IfOk result (λ n. Grows (drop from (take have text.old)) text.new n) }
     ensures err { OnErr result (Grows (drop from (take have text.old)) text.new (have - from)) }

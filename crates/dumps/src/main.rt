@@ -60,20 +60,25 @@ fn fill(bytes: &mut [u8], b: u8) {
 }
 
 // The answer and the line of a text; then how many bytes of an image that was not 0 are not.
-fn try_read<W: Write>(output: &mut W, what: &[u8], text: &[u8], image: &mut [u8]) -> io::Result<()> {
+fn try_read<W: Write>(
+    output: &mut W,
+    what: &[u8],
+    text: &[u8],
+    image: &mut [u8],
+) -> io::Result<()> {
     fill(image, 0x55);
     let r = read_hex(text, image);
     write_line(output, what, r.answer as u64, r.line as u64)?;
-    write_line(
-        output,
-        b"  bytes set",
-        count_set(image),
-        image.len() as u64,
-    )
+    write_line(output, b"  bytes set", count_set(image), image.len() as u64)
 }
 
 // The answer of a write, and how many bytes it has; then how many bytes of an output that was 0 are not.
-fn try_write<W: Write>(output: &mut W, what: &[u8], image: &[u8], out: &mut [u8]) -> io::Result<()> {
+fn try_write<W: Write>(
+    output: &mut W,
+    what: &[u8],
+    image: &[u8],
+    out: &mut [u8],
+) -> io::Result<()> {
     fill(out, 0);
     let w = write_hex(image, out);
     write_line(output, what, w.answer as u64, w.count as u64)?;
@@ -98,7 +103,12 @@ fn try_reads<W: Write>(output: &mut W) -> io::Result<()> {
         &mut whole,
     )?;
     try_read(output, b"one byte", b":00000001FF\n", &mut byte)?;
-    try_read(output, b"a byte less than a group", b":00000001FF\n", &mut short)?;
+    try_read(
+        output,
+        b"a byte less than a group",
+        b":00000001FF\n",
+        &mut short,
+    )?;
     try_read(
         output,
         b"one group, its last byte",

@@ -58,17 +58,33 @@ pub(crate) fn all<W: Write>(output: &mut W) -> io::Result<()> {
     try_word(output, b"a mark, and GROM >2000 had >55\n", 0x8020_0055)?;
     try_word(output, b"a mark, and GROM >3FFF had >55\n", 0x803F_FF55)?;
     in_two(output, b"no mark below\n", 0x0000_0055, 0x0000_0155, 2)?;
-    in_two(output, b"a mark with a surplus bit\n", 0x6002_0042, 0x0000_0055, 2)?;
+    in_two(
+        output,
+        b"a mark with a surplus bit\n",
+        0x6002_0042,
+        0x0000_0055,
+        2,
+    )?;
     try_word(output, b"pad >E0\n", 0x0000_E055)?;
     try_word(output, b"VDP >4000\n", 0x2040_0055)?;
     try_word(output, b"register 8\n", 0x4000_0855)?;
-    try_word(output, b"GROM >1FFF: group 0 is not writable\n", 0x801F_FF55)?;
+    try_word(
+        output,
+        b"GROM >1FFF: group 0 is not writable\n",
+        0x801F_FF55,
+    )?;
     try_word(output, b"GROM >4000: beyond the image\n", 0x8040_0055)?;
     try_word(output, b"GROM >10000: no address\n", 0x8100_0055)?;
     try_word(output, b"kind 5\n", 0xA000_0055)?;
     try_word(output, b"kind 6\n", 0xC000_0055)?;
     try_word(output, b"kind 7\n", 0xE000_0055)?;
-    in_two(output, b"more used than there are\n", 0x6000_0042, 0x0000_0055, 3)?;
+    in_two(
+        output,
+        b"more used than there are\n",
+        0x6000_0042,
+        0x0000_0055,
+        3,
+    )?;
     let mut short = [0u8; 16383];
     try_back(
         output,

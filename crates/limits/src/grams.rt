@@ -86,7 +86,13 @@ fn try_card<W: Write>(
 }
 
 // In two groups.
-fn in_two<W: Write>(output: &mut W, what: &[u8], code: &[u8], writable: u8, n: u32) -> io::Result<()>
+fn in_two<W: Write>(
+    output: &mut W,
+    what: &[u8],
+    code: &[u8],
+    writable: u8,
+    n: u32,
+) -> io::Result<()>
     requires { length code.now ≤ 256 }
 {
     let mut image = [0u8; 16384];
@@ -169,8 +175,19 @@ pub(crate) fn all<W: Write>(output: &mut W) -> io::Result<()> {
         &TO_FFFF,
         0x81,
     )?;
-    in_eight(output, b"eight groups, >80 writable: 24 at >0000\n", &TO_FFFF, 0x80)?;
-    in_two(output, b"a MOVE that reads what it wrote\n", &TO_0101, 0x01, 1)?;
+    in_eight(
+        output,
+        b"eight groups, >80 writable: 24 at >0000\n",
+        &TO_FFFF,
+        0x80,
+    )?;
+    in_two(
+        output,
+        b"a MOVE that reads what it wrote\n",
+        &TO_0101,
+        0x01,
+        1,
+    )?;
     in_two(
         output,
         b"a card that rewrites its next instruction\n",

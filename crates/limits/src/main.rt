@@ -84,8 +84,20 @@ fn main(rt: HostRuntime) -> io::Result<()> {
         &mut journal,
         0,
     )?;
-    try_step(&mut output, b"used exceeds the journal\n", &mut image, &mut word, 2)?;
-    try_step(&mut output, b"a journal of one word\n", &mut image, &mut word, 0)?;
+    try_step(
+        &mut output,
+        b"used exceeds the journal\n",
+        &mut image,
+        &mut word,
+        2,
+    )?;
+    try_step(
+        &mut output,
+        b"a journal of one word\n",
+        &mut image,
+        &mut word,
+        0,
+    )?;
     backs::all(&mut output)?;
     grams::all(&mut output)?;
     rings::all(&mut output)

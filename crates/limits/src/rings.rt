@@ -160,7 +160,13 @@ fn titles<W: Write>(output: &mut W) -> io::Result<()> {
         &mut short,
         true,
     )?;
-    try_title(output, b"drawn ten times, 1024 words\n", b"4000", &mut many, true)?;
+    try_title(
+        output,
+        b"drawn ten times, 1024 words\n",
+        b"4000",
+        &mut many,
+        true,
+    )?;
     try_title(
         output,
         b"the same, no ring: the fifth FMT is 10\n",

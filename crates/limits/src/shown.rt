@@ -9,7 +9,12 @@ use std::io;
 use std::io::Write;
 
 // A heading, and the first bytes of what a run printed.
-fn write_run<W: Write>(output: &mut W, what: &[u8], out: &[u8; 216507], count: usize) -> io::Result<()>
+fn write_run<W: Write>(
+    output: &mut W,
+    what: &[u8],
+    out: &[u8; 216507],
+    count: usize,
+) -> io::Result<()>
     requires { count ≤ length out.now }
 {
     output.write_all(what)?;

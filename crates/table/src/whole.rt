@@ -27,7 +27,12 @@ fn judge<W: Write>(output: &mut W, case: &[u8], text: &mut [u8]) -> io::Result<(
 }
 
 // Each whole line judged; the answer is where one that is not whole begins.
-fn judge_lines<W: Write>(output: &mut W, lines: &[u8], ended: bool, text: &mut [u8]) -> io::Result<usize>
+fn judge_lines<W: Write>(
+    output: &mut W,
+    lines: &[u8],
+    ended: bool,
+    text: &mut [u8],
+) -> io::Result<usize>
     ensures { IfOk result (λ at. (at ≤ length lines.now) × (length lines.now - at ≤ longest)) }
 {
     let mut at = 0;
@@ -40,7 +45,12 @@ fn judge_lines<W: Write>(output: &mut W, lines: &[u8], ended: bool, text: &mut [
     }
 }
 
-fn judge_input<R: Read, W: Write>(input: &mut R, output: &mut W, lines: &mut [u8], text: &mut [u8]) -> io::Result<()>
+fn judge_input<R: Read, W: Write>(
+    input: &mut R,
+    output: &mut W,
+    lines: &mut [u8],
+    text: &mut [u8],
+) -> io::Result<()>
     requires { length lines.old ≡ 65547 }
 {
     let mut from: usize = 0;
