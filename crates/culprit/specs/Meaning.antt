@@ -4,7 +4,7 @@ use Rattle.rules.specs.Machine.{pick, Kind, cpu, vdp, register, grom, Area, Mem,
 use Rattle.rules.specs.Answers.{saying}
 use Rattle.rules.specs.Journal.{kind_number, note, sound}
 use Rattle.ring.specs.declared.book.Book.{Book}
-use Rattle.machine.specs.Meaning.{Lent, mem_of}
+use Rattle.machine.specs.Meaning.{SeenLent, mem_of}
 use Rattle.bench.specs.declared.at.At.{At}
 use Rattle.bench.specs.Meaning.{state_at}
 use Rattle.culprit.specs.Culprit as culprit
@@ -16,11 +16,11 @@ use Rattle.culprit.specs.declared.trail.Wrote.{Wrote}
 use Rattle.culprit.specs.declared.trail.Wrote.TheVariants.{Step, NoneKept, Refused}
 
 -- the machine that a call is lent to look at, by where it stands
-abbrev pub seen : Lent → Lent → Lent → Lent → Lent → At → State
+abbrev pub seen : SeenLent → SeenLent → SeenLent → SeenLent → SeenLent → At → State
 seen i p v g j at = state_at i.entry.now p.entry.now v.entry.now g.entry.now j.entry.now at
 
 -- and by its writable groups and its journal's book
-abbrev pub seen_by : Lent → Lent → Lent → Lent → Lent → ℕ → Book → Mem
+abbrev pub seen_by : SeenLent → SeenLent → SeenLent → SeenLent → SeenLent → ℕ → Book → Mem
 seen_by i p v g j w b = mem_of i.entry.now w p.entry.now v.entry.now g.entry.now j.entry.now b
 
 abbrev pub kind_of : Cell → Kind

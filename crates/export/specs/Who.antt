@@ -1,7 +1,7 @@
 -- How a caller in C reads who wrote a cell: the answer and five numbers.
 use Rattle.std.specs.Prelude.{◌≡◌, Bool, false, List, [], ◌∷◌, ℕ, ltb, eqb}
 use Rattle.rules.specs.Machine.{pick, Kind, cpu, vdp, register, grom, Mem}
-use Rattle.machine.specs.Meaning.{Lent}
+use Rattle.machine.specs.Meaning.{Lent, SeenLent}
 use Rattle.bench.specs.declared.at.At.{At}
 use Rattle.culprit.specs.Meaning.{seen}
 use Rattle.culprit.specs.Culprit.{Wrote, refusal, none_kept, wrote, who_wrote}
@@ -38,6 +38,6 @@ abbrev pub NumbersOf : Wrote → ℕ → Lent → Type 0
 NumbersOf w answer out = numbers answer out.exit.now ≡ numbers_of w
 
 -- they are what is said of the parts lent
-abbrev pub SaysWho : ℕ → ℕ → Lent → Lent → Lent → Lent → Lent → At → ℕ → Lent → Type 0
+abbrev pub SaysWho : ℕ → ℕ → SeenLent → SeenLent → SeenLent → SeenLent → SeenLent → At → ℕ → Lent → Type 0
 SaysWho memory cell i p v g j at answer out =
     NumbersOf (asked memory cell (seen i p v g j at).mem) answer out

@@ -1,0 +1,14 @@
+-- The tick of `bench`, told in numbers as a step, with what it did to the output.
+use mathlib.Core.Path.{refl}
+use Rattle.bench.proofs.Heard.{as_step}
+use Rattle.export.proofs.Chosen.{of_step}
+use Rattle.export.proofs.Numbers.{flag_told, heard_reply, heard_tick}
+use Rattle.export.proofs.ticks.argolythe_tick.Goals as goal
+
+pub returns : goal.returns
+returns c = (
+  flag_told c.tick-r.result.at.source c.tell.ensures,
+  λ _.
+      let step = as_step _ (c.tick-r.ensures _) in
+      heard_tick _ _ _ refl (heard_reply _ (of_step _ step) c.tell.ensures c.steps_of-steps.ensures step) (c.tick-r.ensures _),
+)
