@@ -10,7 +10,7 @@ use std::io::Read;
 pub(crate) const LONGEST: usize = 65546;
 
 // Where a line ends, and where the next one begins; or a part of a line, of which more is to come.
-#[derive(Drop)]
+#[derive(Clone, Copy)]
 pub enum Found {
     Line { end: usize, next: usize },
     Part,
