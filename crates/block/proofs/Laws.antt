@@ -13,7 +13,7 @@ use Rattle.rules.specs.Operands.{Cell}
 use Rattle.rules.specs.Instructions.{move_byte, move_bytes, fill}
 use Rattle.rules.proofs.Tests.{both}
 use Rattle.rules.proofs.Loops.{Repeats}
-use Rattle.machine.specs.Meaning.{Stand, stand, Goes}
+use Rattle.machine.specs.Meaning.{stand, Goes}
 use Rattle.block.specs.declared.ends.Origin.{Origin}
 use Rattle.block.specs.declared.ends.Origin.TheVariants.{Grom}
 use Rattle.block.specs.Meaning.{straight}

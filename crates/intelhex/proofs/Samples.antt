@@ -3,7 +3,7 @@
 use mathlib.Core.Path.{◌≡◌, refl}
 use mathlib.Core.List.{List, [], ◌∷◌, ◌++◌, map}
 use Prim.Native.Nat.{ℕ}
-use lib.ListN.{take, drop, length}
+use lib.ListN.{take, drop}
 use Rattle.lines.specs.Ascii.{ascii}
 use Rattle.lines.specs.Digits as lines
 use Rattle.intelhex.specs.Lines.{feeds, onto, lines_of}

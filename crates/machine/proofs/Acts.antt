@@ -8,7 +8,7 @@ use native.Mathlib.Omega.{arith}
 use lib.Dec.{ltb, lit<}
 use lib.ListN.{length, get_or, set}
 use borrow.Author.Tests.{lt-ltb, le-ltb, ne_eqb}
-use Rattle.rules.specs.Machine.{reach, extent, writable, Mem, area, cells, put, onward}
+use Rattle.rules.specs.Machine.{extent, writable, Mem, area, cells, put, onward}
 use Rattle.rules.specs.Answers.{Why, Answer, saying, number, answer_for, off_grom, no_room, read_only, outside}
 use Rattle.rules.specs.Journal.{kind_number, word, lay}
 use Rattle.rules.specs.Rules.{Rule, ◌>>=◌, got, stopped, room, spare, perform, exec, after, valued, next_byte, grom_byte, here, goto, peek, poke, need}

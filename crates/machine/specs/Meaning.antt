@@ -185,23 +185,11 @@ Ring s l = ring_from s.entry.now s.exit.now l
 abbrev pub SeenImage : SeenLent → Parts → Parts
 SeenImage s l = image_from s.entry.now s.exit.now l
 
-abbrev pub SeenMap : SeenLent → Parts → Parts
-SeenMap s l = map_from s.entry.now s.exit.now l
-
 abbrev pub SeenPad : SeenLent → Parts → Parts
 SeenPad s l = pad_from s.entry.now s.exit.now l
 
 abbrev pub SeenVram : SeenLent → Parts → Parts
 SeenVram s l = vram_from s.entry.now s.exit.now l
-
-abbrev pub SeenRegs : SeenLent → Parts → Parts
-SeenRegs s l = regs_from s.entry.now s.exit.now l
-
-abbrev pub SeenJournal : SeenLent → Parts → Parts
-SeenJournal s l = journal_from s.entry.now s.exit.now l
-
-abbrev pub SeenRing : SeenLent → Parts → Parts
-SeenRing s l = ring_from s.entry.now s.exit.now l
 
 abbrev pub Groups : ℕ → Parts → Parts
 Groups w l = record { image = l.image; map = l.map; groups = named w; pad = l.pad; vram = l.vram; regs = l.regs; journal = l.journal; ring = l.ring }

@@ -1,5 +1,5 @@
 -- How a decoding ends: after a refusal, in reach, and out of reach; and an operand taken apart.
-use Rattle.std.proofs.Common.{◌≡◌, ℕ, ◌+◌, ◌≤◌, true, false, eqb, List, sym, refl, ap, ◌∙◌, subst, le_trans, arith, leb-true}
+use Rattle.std.proofs.Common.{◌≡◌, ℕ, ◌+◌, ◌≤◌, true, false, eqb, List, sym, refl, ap, subst, le_trans, arith, leb-true}
 use Rattle.rules.specs.Machine.{Mem}
 use Rattle.rules.specs.Answers.{Why, Answer, answer_for, outside}
 use Rattle.rules.specs.Rules.{Rule}

@@ -10,7 +10,7 @@ use lib.Seq.{take-append-le, length-take-le}
 use borrow.Author.Tests.{lt-ltb, le-ltb, ne_eqb}
 use Rattle.rules.specs.Machine.{◌also◌, Mem, mem, beside}
 use Rattle.rules.specs.Journal.{turned, zero_top, marks, until_mark, oldest, older_words, forget}
-use Rattle.rules.specs.Rules.{room, spare}
+use Rattle.rules.specs.Rules.{spare}
 use Rattle.rules.proofs.Forget.{length_forget, until_within, forget_none, forget_more}
 use Rattle.ring.specs.Meaning.{booked, slot_of}
 use Rattle.ring.specs.declared.book.Book.{Book}

@@ -15,7 +15,7 @@ use Rattle.rules.specs.Machine.{pick, ◌also◌, Mem}
 use Rattle.rules.specs.Journal.{turned, lay, marks, until_mark, oldest, older_words, place_on, forget}
 use Rattle.rules.specs.Rules.{room, spare}
 use Rattle.rules.proofs.Forget.{length_forget, forget_none, forget_lay}
-use Rattle.ring.specs.Meaning.{slot_of, alone, laid_over, left, left_of, rest, ringed, rings, own, seen, carrying, Laid}
+use Rattle.ring.specs.Meaning.{slot_of, alone, laid_over, left, left_of, ringed, rings, own, seen, carrying, Laid}
 use Rattle.ring.proofs.Turned.{length_turned, as_long, turned_set, turned_forget, turned_mod, turned_round, place_on_lem, place_next}
 use Rattle.ring.proofs.Books.{until_mark_lem, until_other, one_more, few, room_left, spare_plain, spare_none, spare_oldest}
 

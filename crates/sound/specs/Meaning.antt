@@ -1,7 +1,7 @@
 -- What a tick does to the output that it is lent, and what the code's values say of it, in the words of the rules.
 use Rattle.std.specs.Prelude.{◌≡◌, List, [], ◌∷◌, ℕ, suc, ◌+◌, ◌≤◌, ltb, length, set}
 use Rattle.rules.specs.Answers.{output_full}
-use Rattle.rules.specs.Rules.{Rule, Deed, ◌>>=◌, ◌>>◌, sends, emit, need}
+use Rattle.rules.specs.Rules.{Rule, Deed, ◌>>◌, sends, emit, need}
 use Rattle.rules.specs.Sound.{Source, Due, due}
 use Rattle.machine.specs.declared.state.Now.{Now}
 use Rattle.machine.specs.Meaning.{Lent, Parts, Around, Stand, out_of, Goes, unseen_all, start, end}

@@ -4,7 +4,7 @@ use Rattle.std.specs.Borrow.{MutBor}
 use denote.Triple.Both.{Both}
 use Rattle.rules.specs.Machine.{State}
 use Rattle.rules.specs.Calls.{run}
-use Rattle.machine.specs.Meaning.{Lent, Parts, Rest, unmapped}
+use Rattle.machine.specs.Meaning.{Lent, SeenLent, Parts, Rest, unmapped}
 use Rattle.bench.specs.declared.at.At.{At}
 use Rattle.bench.specs.declared.walk.Reply.{Reply}
 use Rattle.bench.specs.declared.runs.Report.{Report}
@@ -58,5 +58,5 @@ pub data HostCalled (ring w : ℕ) (s₀ : State) : List Said → State → Type
 -- ---- the viewer
 
 -- the bytes that an offset and a length name are those that the rules show
-abbrev pub Views : ℕ → Lent → Lent → ℕ → ℕ → Both (MutBor ℕ) (MutBor ℕ) → ℕ → Type 0
+abbrev pub Views : ℕ → SeenLent → SeenLent → ℕ → ℕ → Both (MutBor ℕ) (MutBor ℕ) → ℕ → Type 0
 Views m p v at len o n = named o.exit.now n (bytes_of m p.entry.now v.entry.now) ≡ shown m p.entry.now v.entry.now at len

@@ -1,6 +1,5 @@
 -- By the kind, then by its reach; a GROM cell also by its group; of any other kind there is none.
 use mathlib.Core.Path.{◌∙◌}
-use mathlib.Core.Bool.{true, false}
 use Rattle.rules.specs.Machine.{cpu, vdp, register, grom}
 use Rattle.machine.proofs.Words.{sound_kind, sound_mark, sound_none, both_tests, first_fails, second_tells}
 use Rattle.machine.proofs.journal.sound.Goals as goal

@@ -1,5 +1,4 @@
 use mathlib.Core.Path.{refl, ◌∙◌, ap}
-use mathlib.Core.Bool.{true}
 use native.Mathlib.Omega.{arith}
 use borrow.Author.Rules.{rules}
 use Rattle.rules.specs.Machine.{Mem}
