@@ -1,9 +1,10 @@
 /* Argolythe for C11 and C++: steps, runs, mapped runs, ticks, steps back, the viewer, who wrote a cell, and dumps.
  *
- * Link `libexport.a`, which `rt staticlib export` writes to target/staticlib/, for x86-64 Linux.
+ * Link `libexport.a` for x86-64 Linux: host/run and the scripts of compare/ build it to target/staticlib/. It is the
+ * out/libexport_c.a that `rt lib` writes in crates/export_c, under the name that it has always had.
  *
  * What the library promises is proved: each call ends, touches nothing beyond what it is lent, and
- * leaves what the rules give (crates/export/src/ has the contracts, crates/export/specs/ how the numbers
+ * leaves what the rules give (crates/export_c/src/ has the contracts, crates/export/specs/ how the numbers
  * here are read). What a caller owes is checked by nothing:
  *
  * - Each pointer is valid for as many elements as its length says, which are initialised, and is

@@ -1,6 +1,8 @@
 // The program: lines from standard input, obeyed as they come.
 #![tactic(auto)]
 
-fn main() {
-    desk::whole::obey_all(0);
+use std::io;
+
+fn main(rt: HostRuntime) -> io::Result<()> {
+    desk::whole::obey_all(&mut rt.stdin(), &mut rt.stdout())
 }

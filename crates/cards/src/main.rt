@@ -1,6 +1,8 @@
 // The bench cards of 01 and each refusal that the program can give, as a table of cases.
 #![tactic(auto)]
 
-fn main() {
-    table::whole::run_table(0);
+use std::io;
+
+fn main(rt: HostRuntime) -> io::Result<()> {
+    table::whole::run_table(&mut rt.stdin(), &mut rt.stdout())
 }

@@ -9,7 +9,7 @@ use lib.Dec.{eqb}
 use lib.ListN.{length, take, drop, length-append, length-drop, drop_of_length-le}
 use lib.Seq.{take-length, take_all, drop-drop}
 use borrow.Author.Tests.{le-leb, lt-leb}
-use Rattle.bytes.specs.Bytes.{index_after, index_of, slice}
+use Rattle.desk.specs.Bytes.{index_after, index_of, slice}
 use Rattle.rules.specs.Machine.{State}
 use Rattle.lines.specs.Lines.{bad, line_of}
 use Rattle.desk.specs.Desk.{line_feed, onto, cut, longest, heard, told}

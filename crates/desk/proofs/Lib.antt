@@ -4,4 +4,5 @@ pub mod Laws
 pub mod Long
 pub mod Promises
 pub mod Samples
+pub mod Scan
 pub mod Telling

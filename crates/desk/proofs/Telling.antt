@@ -7,6 +7,7 @@ use Prim.Native.Nat.{ℕ, suc, ◌+◌, ◌-◌, ◌≤◌, ◌<◌}
 use native.Mathlib.Omega.{arith}
 use native.Mathlib.Numerals.{add-one}
 use lib.ListN.{length, take, drop}
+use Rattle.std.specs.Prelude.{Result, Ok, Err, OnErr}
 use Rattle.rules.specs.Machine.{State}
 use Rattle.lines.specs.Lines.{Line, sets, jumps, runs, bad}
 use Rattle.lines.specs.Shown.{bad_line}
@@ -83,6 +84,12 @@ module _ {ended : Bool} {p m q : Point} {buffer : List ℕ} {r : Turn} (s : Said
 
   pub said_good : r.good ≡ true → Said ended p true q
   said_good g = rw g at said_on
+
+-- what is told up to some place, where a text can't be written
+pub broken : {T E : Type 0} (B : Place → Bool → Type 0) (r : Result T E) (q : Place) (good : Bool) → B q good
+    → OnErr r ((p : Place) × ((b : Bool) × B p b))
+broken B (Ok x) q good t = tt
+broken B (Err e) q good t = (q, (good, t))
 
 -- ---- places
 

@@ -1,3 +1,4 @@
+pub mod Bytes
 pub mod Desk
 pub mod Meaning
 pub mod Promised

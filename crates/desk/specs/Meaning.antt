@@ -1,13 +1,13 @@
 -- What the code's values say of the machine on the desk, and what its contracts say.
 use Rattle.std.specs.Prelude.{◌≡◌, Bool, true, false, cond, List, [], ◌∷◌, ◌++◌, ℕ, suc, ◌+◌, ◌-◌, ◌≤◌, ◌<◌, length, take, drop}
-use Rattle.bytes.specs.Bytes.{index_of}
-use Rattle.machine.specs.Meaning.{Lent, Parts, Rest, unmapped}
+use Rattle.machine.specs.Meaning.{Lent, SeenLent, Parts, Rest, unmapped}
 use Rattle.rules.specs.Machine.{State}
 use Rattle.bench.specs.Meaning.{returned_by, stands_at, lent_to}
 use Rattle.bench.specs.declared.at.At.{At}
 use Rattle.bench.specs.declared.runs.Report.{Report}
 use Rattle.lines.specs.Lines as lines
 use Rattle.lines.specs.Shown.{run_lines, Front}
+use Rattle.desk.specs.Bytes.{index_of}
 use Rattle.desk.specs.Desk.{obeyed, printed, says, line_feed, cut, longest, told}
 use Rattle.desk.specs.declared.input.Found.{Found}
 use Rattle.desk.specs.declared.input.Found.TheVariants.{Line, Part}
@@ -43,7 +43,7 @@ Obeys k l parts out at r =
 -- ---- what a run prints
 
 -- its report, with pad, VDP RAM and registers before it and after it
-abbrev pub report_text : Report → Lent → Lent → Lent → Lent → Lent → Lent → List ℕ
+abbrev pub report_text : Report → SeenLent → SeenLent → SeenLent → SeenLent → SeenLent → SeenLent → List ℕ
 report_text r p₀ p v₀ v g₀ g =
     run_lines r.answer r.steps r.stores r.address r.at.pc
     p₀.entry.now p.entry.now v₀.entry.now v.entry.now g₀.entry.now g.entry.now
@@ -138,8 +138,12 @@ Between R text p parts q =
     × ((rest : Rest (parts unmapped)) → R (point p.number (drop p.from text) (lent_to (parts unmapped) rest p.at))
     (point q.number (drop q.from text) (standing (parts unmapped) rest q.at)))
 
-abbrev pub Turns : Bool → Lent → Place → (Parts → Parts) → Lent → Turn → Type 0
+abbrev pub Turns : Bool → SeenLent → Place → (Parts → Parts) → Lent → Turn → Type 0
 Turns ended text p parts out r = Between (λ x y. Turned ended x y out.exit.now r) text.entry.now p parts r.place
 
-abbrev pub Speaks : Bool → Lent → Place → (Parts → Parts) → Turn → Type 0
+abbrev pub Speaks : Bool → SeenLent → Place → (Parts → Parts) → Turn → Type 0
 Speaks ended text p parts r = Between (λ x y. Spoken ended x r.good y) text.entry.now p parts r.place
+
+-- where a text could not be written: what was told up to it leads to some place, and the machine stands as it does there
+abbrev pub Breaks : Bool → SeenLent → Place → (Parts → Parts) → Type 0
+Breaks ended text p parts = (q : Place) × ((good : Bool) × Between (λ x y. Said ended x good y) text.entry.now p parts q)

@@ -1,15 +1,34 @@
 // An input, piece by piece: its lines, found in what was read of it, and more of it read.
-ghost use Rattle.std.specs.Prelude.{◌≡◌, ◌-◌, ◌<◌, ◌≤◌, length, take, drop};
+ghost use Rattle.std.specs.Prelude.{◌≡◌, ◌+◌, ◌-◌, ◌<◌, ◌≤◌, length, take, drop, IfOk, OnErr};
+ghost use Rattle.desk.specs.Bytes.{index_of, slice};
 ghost use Rattle.desk.specs.Meaning.{Finds, Grows};
+
+use std::io;
+use std::io::Read;
 
 // A `grom` line for the whole image has so many bytes. No longer line says anything.
 pub(crate) const LONGEST: usize = 65546;
 
 // Where a line ends, and where the next one begins; or a part of a line, of which more is to come.
-#[derive(Drop)]
+#[derive(Clone, Copy)]
 pub enum Found {
     Line { end: usize, next: usize },
     Part,
+}
+
+// The first place from one on, and before another, where a byte stands; that other, where none does.
+pub fn find(text: &[u8], from: usize, end: usize, byte: u8) -> usize
+    requires { (from ≤ end) × (end ≤ length text.now) }
+    ensures { (result ≡ from + index_of byte (slice from end text.now)) × (result ≤ end) }
+{
+    let mut at = from;
+    while at < end {
+        if text[at] == byte {
+            return at;
+        }
+        at += 1;
+    }
+    at
 }
 
 // The line that begins at a place: the last one of an input that has `ended` may lack its line feed, and one too long to say anything needs none.
@@ -18,7 +37,7 @@ pub fn line_at(text: &[u8], at: usize, ended: bool) -> Found
     ensures { Finds ended text.now at result }
 {
     let have = text.len();
-    let end = bytes::scan::find(text, at, have, b'\n');
+    let end = find(text, at, have, b'\n');
     if end < have {
         let next = end + 1;
         return Found::Line { end, next };
@@ -52,12 +71,19 @@ fn to_front(text: &mut [u8], from: usize, have: usize) -> usize
 }
 
 // What is left is moved to the front, and more is read after it. There is room for a byte: where there are no more than before, the input has ended.
-pub fn refill(fd: i32, text: &mut [u8], from: usize, have: usize) -> usize
+// Where the read fails, what is left is at the front all the same.
+pub fn refill<R: Read>(
+    input: &mut R,
+    text: &mut [u8],
+    from: usize,
+    have: usize,
+) -> io::Result<usize>
     requires { (from ≤ have) × (have ≤ length text.old) × (have - from < length text.old) }
-    ensures { Grows (drop from (take have text.old)) text.new result }
+    ensures ok { IfOk result (λ n. Grows (drop from (take have text.old)) text.new n) }
+    ensures err { OnErr result (Grows (drop from (take have text.old)) text.new (have - from)) }
 {
     let kept = to_front(text, from, have);
     let room = &mut text[kept..];
-    let got = libc::read(fd, room);
-    kept + io::count(got, room)
+    let got = input.read(room)?;
+    Ok(kept + got)
 }

@@ -14,7 +14,7 @@ use lines::read::{Bytes, Line};
 use lines::{print, read};
 
 // Where the machine stands after a line, and how many bytes are to be printed; `good` where the line says something.
-#[derive(Drop)]
+#[derive(Clone, Copy)]
 pub struct Stand {
     pub at: At,
     pub count: usize,

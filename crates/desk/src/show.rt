@@ -1,11 +1,14 @@
 // What a run prints, put together and written.
-ghost use Rattle.std.specs.Prelude.{◌≤◌, length};
+ghost use Rattle.std.specs.Prelude.{◌≤◌, length, take, OnOk};
+ghost use Rattle.std.specs.Io.KnownBytes.{Appends};
 ghost use Rattle.lines.specs.Shown.{Front};
 ghost use Rattle.desk.specs.Meaning.{report_text};
 
 use bench::runs::Report;
 use lines::parts::Part;
 use lines::print;
+use std::io;
+use std::io::Write;
 
 // Its answer, its pc, and each cell that it changed; `pad0`, `vram0` and `regs0` are the parts before it. 216,507 bytes are enough: 83 for two
 // lines, 13 for each cell.
@@ -28,9 +31,10 @@ pub fn put_run(
     print::put_changed(out, d, Part::Reg, regs0, regs)
 }
 
-// The first `count` bytes of a text, written to standard output.
-pub fn write_text(text: &[u8], count: usize)
+// The first `count` bytes of a text, written.
+pub fn write_text<W: Write>(output: &mut W, text: &[u8], count: usize) -> io::Result<()>
     requires { count ≤ length text.now }
+    ensures { OnOk result (Appends (W.contents output.old) (W.contents output.new) (take count text.now)) }
 {
-    io::write_all(1, &text[..count]);
+    output.write_all(&text[..count])
 }

@@ -8,7 +8,7 @@ use crate::{input, obey};
 use bench::at::At;
 
 // A place in a text: where the next line begins, the number of the line before it, and where the machine stands.
-#[derive(Drop)]
+#[derive(Clone, Copy)]
 pub struct Place {
     pub from: usize,
     pub number: u64,
@@ -16,7 +16,7 @@ pub struct Place {
 }
 
 // The place after a text that is printed, and how many bytes that has; `good` where the last line says something.
-#[derive(Drop)]
+#[derive(Clone, Copy)]
 pub struct Turn {
     pub place: Place,
     pub count: usize,

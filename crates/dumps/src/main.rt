@@ -2,27 +2,39 @@
 #![tactic(auto)]
 
 use intelhex::dump::{read_hex, write_hex};
+use std::env::FillError;
+use std::fs::File;
+use std::io;
+use std::io::{ErrorKind, Write};
+use std::rt::Env;
 
-fn show_file(path: &[u8]) {
-    io::write_all(1, path);
-    io::write_all(1, b"\n");
-    let fd = os::open_read(path);
-    if fd < 0 {
-        os::fail(path);
-        return;
+// A name that is no UTF-8 is that of no file.
+fn open(rt: &HostRuntime, path: &[u8]) -> io::Result<File> {
+    let Ok(name) = std::str::from_utf8(path) else {
+        return Err(io::Error::from(ErrorKind::InvalidInput));
+    };
+    File::open(rt, name)
+}
+
+// A file that can't be opened is named on standard error, with the reason.
+fn show_file(rt: &HostRuntime, path: &[u8]) -> io::Result<()> {
+    let mut output = rt.stdout();
+    output.write_all(path)?;
+    output.write_all(b"\n")?;
+    match open(rt, path) {
+        Ok(mut file) => rig::whole::show_all(&mut file, &mut output),
+        Err(error) => {
+            let mut errors = rt.stderr();
+            errors.write_all(path)?;
+            writeln!(errors, ": {error}")
+        }
     }
-    rig::whole::show_all(fd);
-    libc::close(fd);
 }
 
 // A heading and two numbers.
-fn write_line(what: &[u8], a: u64, b: u64) {
-    io::write_all(1, what);
-    io::write_all(1, b"\t");
-    io::print_decimal(1, a);
-    io::write_all(1, b"\t");
-    io::print_decimal(1, b);
-    io::write_all(1, b"\n");
+fn write_line<W: Write>(output: &mut W, what: &[u8], a: u64, b: u64) -> io::Result<()> {
+    output.write_all(what)?;
+    writeln!(output, "\t{a}\t{b}")
 }
 
 // How many bytes are not 0.
@@ -48,51 +60,70 @@ fn fill(bytes: &mut [u8], b: u8) {
 }
 
 // The answer and the line of a text; then how many bytes of an image that was not 0 are not.
-fn try_read(what: &[u8], text: &[u8], image: &mut [u8]) {
+fn try_read<W: Write>(
+    output: &mut W,
+    what: &[u8],
+    text: &[u8],
+    image: &mut [u8],
+) -> io::Result<()> {
     fill(image, 0x55);
     let r = read_hex(text, image);
-    write_line(what, r.answer as u64, r.line as u64);
-    write_line(b"  bytes set", count_set(image), image.len() as u64);
+    write_line(output, what, r.answer as u64, r.line as u64)?;
+    write_line(output, b"  bytes set", count_set(image), image.len() as u64)
 }
 
 // The answer of a write, and how many bytes it has; then how many bytes of an output that was 0 are not.
-fn try_write(what: &[u8], image: &[u8], out: &mut [u8]) {
+fn try_write<W: Write>(
+    output: &mut W,
+    what: &[u8],
+    image: &[u8],
+    out: &mut [u8],
+) -> io::Result<()> {
     fill(out, 0);
     let w = write_hex(image, out);
-    write_line(what, w.answer as u64, w.count as u64);
-    write_line(b"  bytes set", count_set(out), out.len() as u64);
+    write_line(output, what, w.answer as u64, w.count as u64)?;
+    write_line(output, b"  bytes set", count_set(out), out.len() as u64)
 }
 
-fn try_reads() {
+fn try_reads<W: Write>(output: &mut W) -> io::Result<()> {
     let mut byte = [0u8; 1];
     let mut short = [0u8; 8191];
     let mut group = [0u8; 8192];
     let mut whole = [0u8; 65536];
     try_read(
+        output,
         b"eight groups, the last byte",
         b":01FFFF00AA57\n:00000001FF\n",
         &mut whole,
-    );
+    )?;
     try_read(
+        output,
         b"eight groups, one past the last byte",
         b":02FFFF00AABB9B\n:00000001FF\n",
         &mut whole,
-    );
-    try_read(b"one byte", b":00000001FF\n", &mut byte);
-    try_read(b"a byte less than a group", b":00000001FF\n", &mut short);
+    )?;
+    try_read(output, b"one byte", b":00000001FF\n", &mut byte)?;
     try_read(
+        output,
+        b"a byte less than a group",
+        b":00000001FF\n",
+        &mut short,
+    )?;
+    try_read(
+        output,
         b"one group, its last byte",
         b":011FFF00AA37\n:00000001FF\n",
         &mut group,
-    );
+    )?;
     try_read(
+        output,
         b"one group, one past it",
         b":01200000AA35\n:00000001FF\n",
         &mut group,
-    );
+    )
 }
 
-fn try_writes() {
+fn try_writes<W: Write>(output: &mut W) -> io::Result<()> {
     let group = [0u8; 8192];
     let long = [0u8; 8193];
     let mut byte = [0u8; 1];
@@ -100,24 +131,32 @@ fn try_writes() {
     let mut just = [0u8; 22540];
     let mut few = [0u8; 22539];
     try_write(
+        output,
         b"a group written, a byte more than enough",
         &group,
         &mut more,
-    );
-    try_write(b"a group written, just enough", &group, &mut just);
-    try_write(b"a group written, a byte too few", &group, &mut few);
-    try_write(b"a wrong length, before too few", &long, &mut byte);
+    )?;
+    try_write(output, b"a group written, just enough", &group, &mut just)?;
+    try_write(output, b"a group written, a byte too few", &group, &mut few)?;
+    try_write(output, b"a wrong length, before too few", &long, &mut byte)
 }
 
-fn main() {
-    let mut path = io::buffer();
-    let mut k: usize = 1;
-    let count = os::arg_count();
-    while k < count {
-        let length = os::arg(k, &mut path);
-        show_file(&path[..length]);
-        k += 1;
+// Each file that an argument names. An argument longer than a path can be is the empty path.
+fn show_files(rt: &HostRuntime) -> io::Result<()> {
+    let mut path = [0u8; 4096];
+    for k in 1..usize::MAX {
+        match rt.arg(k, &mut path) {
+            Ok(length) => show_file(rt, &path[..length])?,
+            Err(FillError::TooLong) => show_file(rt, b"")?,
+            Err(FillError::NotPresent) => return Ok(()),
+        }
     }
-    try_reads();
-    try_writes();
+    Ok(())
+}
+
+fn main(rt: HostRuntime) -> io::Result<()> {
+    let mut output = rt.stdout();
+    show_files(&rt)?;
+    try_reads(&mut output)?;
+    try_writes(&mut output)
 }

@@ -1,4 +1,4 @@
-// The public calls for C and Rust. Nothing is asked of a caller but what the types say.
+// The public calls for C and Rust; `export_c` gives them their names in C. Nothing is asked of a caller but what the types say.
 #![tactic(auto)]
 
 pub mod dump;
@@ -47,8 +47,7 @@ pub(crate) fn steps_of(answer: u8) -> u64
 }
 
 // A run of one step: one machine code serves both.
-#[unsafe(no_mangle)]
-pub extern "C" fn argolythe_step(
+pub fn argolythe_step(
     image: &mut [u8],
     pad: &mut [u8],
     vdp: &mut [u8],
@@ -70,8 +69,7 @@ pub extern "C" fn argolythe_step(
 }
 
 // Up to n steps.
-#[unsafe(no_mangle)]
-pub extern "C" fn argolythe_run(
+pub fn argolythe_run(
     image: &mut [u8],
     pad: &mut [u8],
     vdp: &mut [u8],
@@ -106,8 +104,7 @@ pub extern "C" fn argolythe_run(
 }
 
 // One step back: `steps` says whether one was taken back, and no stores are counted.
-#[unsafe(no_mangle)]
-pub extern "C" fn argolythe_step_back(
+pub fn argolythe_step_back(
     image: &mut [u8],
     pad: &mut [u8],
     vdp: &mut [u8],
@@ -156,8 +153,7 @@ fn seen<'a>(pad: &'a [u8], vdp: &'a [u8], memory: u8, at: usize, len: usize) -> 
 }
 
 // A length, 0 where nothing is shown, and an offset into the caller's own bytes.
-#[unsafe(no_mangle)]
-pub extern "C" fn argolythe_view<'a>(
+pub fn argolythe_view<'a>(
     pad: &'a [u8],
     vdp: &'a [u8],
     memory: u8,

@@ -5,8 +5,7 @@ ghost use Rattle.export.specs.Mapped.{HearsMapped};
 use bench::at::At;
 
 // As a run: each byte that it reads gets 1 in a map of one byte for each of the image's.
-#[unsafe(no_mangle)]
-pub extern "C" fn argolythe_run_mapped(
+pub fn argolythe_run_mapped(
     image: &mut [u8],
     map: &mut [u8],
     pad: &mut [u8],

@@ -5,8 +5,7 @@ ghost use Rattle.export.specs.Ticks.{HearsTick};
 use bench::at::At;
 
 // One tick: `steps` says whether it was done, and `sent` how many bytes stand in the output.
-#[unsafe(no_mangle)]
-pub extern "C" fn argolythe_tick(
+pub fn argolythe_tick(
     image: &mut [u8],
     pad: &mut [u8],
     vdp: &mut [u8],

@@ -71,8 +71,7 @@ fn tell(w: Wrote, out: &mut [u64; 5]) -> u8
 }
 
 // Nothing but `out` is lent to be changed.
-#[unsafe(no_mangle)]
-pub extern "C" fn argolythe_who_wrote(
+pub fn argolythe_who_wrote(
     image: &[u8],
     pad: &[u8],
     vdp: &[u8],

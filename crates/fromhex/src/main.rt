@@ -1,6 +1,8 @@
 // A dump from standard input, shown as lines for the bench.
 #![tactic(auto)]
 
-fn main() {
-    rig::whole::show_all(0);
+use std::io;
+
+fn main(rt: HostRuntime) -> io::Result<()> {
+    rig::whole::show_all(&mut rt.stdin(), &mut rt.stdout())
 }

@@ -1,6 +1,8 @@
 // The worked examples of the programmer's guide, as a table of cases.
 #![tactic(auto)]
 
-fn main() {
-    table::whole::run_table(0);
+use std::io;
+
+fn main(rt: HostRuntime) -> io::Result<()> {
+    table::whole::run_table(&mut rt.stdin(), &mut rt.stdout())
 }

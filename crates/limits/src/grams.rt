@@ -3,6 +3,8 @@ ghost use Rattle.std.specs.Prelude.{◌≤◌, length};
 
 use crate::shown;
 use bench::at::At;
+use std::io;
+use std::io::Write;
 
 // MOVE 2 bytes from >0100 to >2000, >1FFF, >3FFF and >FFFF; 1 byte to >FFFF; 3 bytes to >0101.
 const TO_2000: [u8; 7] = [0x21, 0x00, 0x02, 0x20, 0x00, 0x01, 0x00];
@@ -32,7 +34,8 @@ const EACH: [u8; 40] = [
 fn lay_card(code: &[u8], image: &mut [u8])
     requires { (length code.now ≤ 256) × (512 ≤ length image.old) }
 {
-    bytes::copy(code, image);
+    let n = code.len();
+    image[..n].copy_from_slice(code);
     image[0x0100] = 0x12;
     image[0x0101] = 0x34;
     image[0x0180] = 0x56;
@@ -40,7 +43,15 @@ fn lay_card(code: &[u8], image: &mut [u8])
 }
 
 // So many steps of a card that was so; after a run that was not refused one step back.
-fn try_card(what: &[u8], was: &[u8], image: &mut [u8], journal: &mut [u32], writable: u8, n: u32) {
+fn try_card<W: Write>(
+    output: &mut W,
+    what: &[u8],
+    was: &[u8],
+    image: &mut [u8],
+    journal: &mut [u32],
+    writable: u8,
+    n: u32,
+) -> io::Result<()> {
     let mut pad = [0u8; 256];
     let mut vram = [0u8; 16384];
     let mut regs = [0u8; 8];
@@ -54,105 +65,136 @@ fn try_card(what: &[u8], was: &[u8], image: &mut [u8], journal: &mut [u32], writ
         source: false,
     };
     let r = bench::runs::run(image, &mut pad, &mut vram, &mut regs, journal, at, n);
-    shown::show_run(what, r, &pad, &vram, &regs);
-    shown::show_groms(was, image);
-    shown::show_words(journal);
+    shown::show_run(output, what, r, &pad, &vram, &regs)?;
+    shown::show_groms(output, was, image)?;
+    shown::show_words(output, journal)?;
     if r.answer != 0 {
-        return;
+        return Ok(());
     }
     let there = r.at;
     let b = bench::walk::step_back(image, &mut pad, &mut vram, &mut regs, journal, there);
-    shown::show_run(b"and a step back\n", shown::as_run(b), &pad, &vram, &regs);
-    shown::show_groms(was, image);
-    shown::show_words(journal);
+    shown::show_run(
+        output,
+        b"and a step back\n",
+        shown::as_run(b),
+        &pad,
+        &vram,
+        &regs,
+    )?;
+    shown::show_groms(output, was, image)?;
+    shown::show_words(output, journal)
 }
 
 // In two groups.
-fn in_two(what: &[u8], code: &[u8], writable: u8, n: u32)
+fn in_two<W: Write>(
+    output: &mut W,
+    what: &[u8],
+    code: &[u8],
+    writable: u8,
+    n: u32,
+) -> io::Result<()>
     requires { length code.now ≤ 256 }
 {
     let mut image = [0u8; 16384];
     let mut journal = [0u32; 64];
     lay_card(code, &mut image);
     let was = image;
-    try_card(what, &was, &mut image, &mut journal, writable, n);
+    try_card(output, what, &was, &mut image, &mut journal, writable, n)
 }
 
 // In two groups, with four words: for the mark and the push.
-fn in_four_words(what: &[u8], code: &[u8], writable: u8)
+fn in_four_words<W: Write>(output: &mut W, what: &[u8], code: &[u8], writable: u8) -> io::Result<()>
     requires { length code.now ≤ 256 }
 {
     let mut image = [0u8; 16384];
     let mut journal = [0u32; 4];
     lay_card(code, &mut image);
     let was = image;
-    try_card(what, &was, &mut image, &mut journal, writable, 1);
+    try_card(output, what, &was, &mut image, &mut journal, writable, 1)
 }
 
-fn in_four(what: &[u8], code: &[u8], writable: u8)
+fn in_four<W: Write>(output: &mut W, what: &[u8], code: &[u8], writable: u8) -> io::Result<()>
     requires { length code.now ≤ 256 }
 {
     let mut image = [0u8; 32768];
     let mut journal = [0u32; 64];
     lay_card(code, &mut image);
     let was = image;
-    try_card(what, &was, &mut image, &mut journal, writable, 1);
+    try_card(output, what, &was, &mut image, &mut journal, writable, 1)
 }
 
-fn in_eight(what: &[u8], code: &[u8], writable: u8)
+fn in_eight<W: Write>(output: &mut W, what: &[u8], code: &[u8], writable: u8) -> io::Result<()>
     requires { length code.now ≤ 256 }
 {
     let mut image = [0u8; 65536];
     let mut journal = [0u32; 64];
     lay_card(code, &mut image);
     let was = image;
-    try_card(what, &was, &mut image, &mut journal, writable, 1);
+    try_card(output, what, &was, &mut image, &mut journal, writable, 1)
 }
 
-pub(crate) fn all() {
-    in_two(b"two groups, >02 writable\n", &TO_2000, 0x02, 1);
-    in_two(b"none writable: 24\n", &TO_2000, 0x00, 1);
+pub(crate) fn all<W: Write>(output: &mut W) -> io::Result<()> {
+    in_two(output, b"two groups, >02 writable\n", &TO_2000, 0x02, 1)?;
+    in_two(output, b"none writable: 24\n", &TO_2000, 0x00, 1)?;
     in_four_words(
+        output,
         b"all but that one writable, four words: 24 before 10\n",
         &TO_2000,
         0xFD,
-    );
-    in_four_words(b">02 writable, four words: 10\n", &TO_2000, 0x02);
+    )?;
+    in_four_words(output, b">02 writable, four words: 10\n", &TO_2000, 0x02)?;
     in_four(
+        output,
         b"four groups, none writable, to >FFFF: 6 before 24\n",
         &ONE_TO_FFFF,
         0x00,
-    );
+    )?;
     in_four_words(
+        output,
         b"two groups, all writable, four words, to >FFFF: 6 before 10\n",
         &ONE_TO_FFFF,
         0xFF,
-    );
+    )?;
     in_two(
+        output,
         b">01 writable, to >1FFF: 24 at the second byte\n",
         &TO_1FFF,
         0x01,
         1,
-    );
+    )?;
     in_two(
+        output,
         b">02 writable, to >3FFF: 6 at the second byte\n",
         &TO_3FFF,
         0x02,
         1,
-    );
+    )?;
     in_eight(
+        output,
         b"eight groups, >81 writable, to >FFFF and >0000\n",
         &TO_FFFF,
         0x81,
-    );
-    in_eight(b"eight groups, >80 writable: 24 at >0000\n", &TO_FFFF, 0x80);
-    in_two(b"a MOVE that reads what it wrote\n", &TO_0101, 0x01, 1);
+    )?;
+    in_eight(
+        output,
+        b"eight groups, >80 writable: 24 at >0000\n",
+        &TO_FFFF,
+        0x80,
+    )?;
     in_two(
+        output,
+        b"a MOVE that reads what it wrote\n",
+        &TO_0101,
+        0x01,
+        1,
+    )?;
+    in_two(
+        output,
         b"a card that rewrites its next instruction\n",
         &OWN_NEXT,
         0x01,
         1,
-    );
-    in_two(b"and runs the new one\n", &OWN_NEXT, 0x01, 2);
-    in_two(b"each MOVE into GROM\n", &EACH, 0x02, 6);
+    )?;
+    in_two(output, b"and runs the new one\n", &OWN_NEXT, 0x01, 2)?;
+    in_two(output, b"each MOVE into GROM\n", &EACH, 0x02, 6)
 }

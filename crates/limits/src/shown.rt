@@ -5,47 +5,55 @@ use bench::runs::Report;
 use bench::walk::Reply;
 use lines::parts::Part;
 use lines::print;
+use std::io;
+use std::io::Write;
 
 // A heading, and the first bytes of what a run printed.
-fn write_run(what: &[u8], out: &[u8; 216507], count: usize)
+fn write_run<W: Write>(
+    output: &mut W,
+    what: &[u8],
+    out: &[u8; 216507],
+    count: usize,
+) -> io::Result<()>
     requires { count ≤ length out.now }
 {
-    io::write_all(1, what);
-    desk::show::write_text(out, count);
+    output.write_all(what)?;
+    desk::show::write_text(output, out, count)
 }
 
 // A run, and what it leaves of pad, VDP RAM and registers.
-pub(crate) fn show_run(
+pub(crate) fn show_run<W: Write>(
+    output: &mut W,
     what: &[u8],
     r: Report,
     pad: &[u8; 256],
     vram: &[u8; 16384],
     regs: &[u8; 8],
-) {
+) -> io::Result<()> {
     let mut pad0 = [0u8; 256];
     let vram0 = [0u8; 16384];
     let regs0 = [0u8; 8];
     let mut out = [0u8; 216507];
     pad0[0x73] = 0x7E;
     let count = desk::show::put_run(&mut out, r, &pad0, pad, &vram0, vram, &regs0, regs);
-    write_run(what, &out, count);
+    write_run(output, what, &out, count)
 }
 
 // A run's answer and where it ends.
-pub(crate) fn show_answer(r: Report) {
+pub(crate) fn show_answer<W: Write>(output: &mut W, r: Report) -> io::Result<()> {
     let mut out = [0u8; 83];
     let a = print::put_answer(&mut out, 0, r.answer, r.steps, r.stores, r.address);
     let b = print::put_pc(&mut out, a, r.at.pc);
-    desk::show::write_text(&out, b);
+    desk::show::write_text(output, &out, b)
 }
 
 // A number with its name.
-pub(crate) fn show_number(name: &[u8], n: u64) {
+pub(crate) fn show_number<W: Write>(output: &mut W, name: &[u8], n: u64) -> io::Result<()> {
     let mut out = [0u8; 21];
-    io::write_all(1, name);
+    output.write_all(name)?;
     let a = print::put_decimal(&mut out, 0, n);
     let b = print::put_word(&mut out, a, b"\n");
-    desk::show::write_text(&out, b);
+    desk::show::write_text(output, &out, b)
 }
 
 // A step back as a run of no steps.
@@ -60,27 +68,28 @@ pub(crate) fn as_run(b: Reply) -> Report {
     }
 }
 
-fn show_grom(at: u16, byte: u8) {
+fn show_grom<W: Write>(output: &mut W, at: u16, byte: u8) -> io::Result<()> {
     let mut out = [0u8; 13];
     let count = print::put_cell(&mut out, 0, Part::Grom, at, byte);
-    desk::show::write_text(&out, count);
+    desk::show::write_text(output, &out, count)
 }
 
 // Each byte of an image that is not as it was.
-pub(crate) fn show_groms(was: &[u8], is: &[u8]) {
+pub(crate) fn show_groms<W: Write>(output: &mut W, was: &[u8], is: &[u8]) -> io::Result<()> {
     let mut at: usize = 0;
     while at < 65536 {
         if was.len() <= at {
-            return;
+            return Ok(());
         }
         if is.len() <= at {
-            return;
+            return Ok(());
         }
         if was[at] != is[at] {
-            show_grom(at as u16, is[at]);
+            show_grom(output, at as u16, is[at])?;
         }
         at += 1;
     }
+    Ok(())
 }
 
 fn hex_digit(n: u32) -> u8 {
@@ -91,7 +100,7 @@ fn hex_digit(n: u32) -> u8 {
     55 + digit
 }
 
-fn show_word(word: u32) {
+fn show_word<W: Write>(output: &mut W, word: u32) -> io::Result<()> {
     let mut out = [0u8; 8];
     out[0] = hex_digit(word >> 28);
     out[1] = hex_digit(word >> 24);
@@ -101,27 +110,29 @@ fn show_word(word: u32) {
     out[5] = hex_digit(word >> 8);
     out[6] = hex_digit(word >> 4);
     out[7] = hex_digit(word);
-    io::write_all(1, b"word\t");
-    io::write_all(1, &out);
-    io::write_all(1, b"\n");
+    output.write_all(b"word\t")?;
+    output.write_all(&out)?;
+    output.write_all(b"\n")
 }
 
 // Each word of the journal that is not 0.
-pub(crate) fn show_words(journal: &[u32]) {
+pub(crate) fn show_words<W: Write>(output: &mut W, journal: &[u32]) -> io::Result<()> {
     let mut at: usize = 0;
     while at < journal.len() {
         if journal[at] != 0 {
-            show_word(journal[at]);
+            show_word(output, journal[at])?;
         }
         at += 1;
     }
+    Ok(())
 }
 
 // Each word of the journal.
-pub(crate) fn show_journal(journal: &[u32]) {
+pub(crate) fn show_journal<W: Write>(output: &mut W, journal: &[u32]) -> io::Result<()> {
     let mut at: usize = 0;
     while at < journal.len() {
-        show_word(journal[at]);
+        show_word(output, journal[at])?;
         at += 1;
     }
+    Ok(())
 }

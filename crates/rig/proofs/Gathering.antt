@@ -12,8 +12,8 @@ use lib.Dec.{eqb}
 use lib.ListN.{length, take, drop, length-drop, drop_of_length-le}
 use lib.Seq.{drop-drop, take_all, take-length}
 use Rattle.lines.specs.Lines.{Line}
-use Rattle.lines.specs.Shown.{Lent, Front, bad_line}
-use Rattle.bytes.specs.Bytes.{index_of, index_after, slice}
+use Rattle.lines.specs.Shown.{Lent, SeenLent, Front, bad_line}
+use Rattle.desk.specs.Bytes.{index_of, index_after, slice}
 use Rattle.desk.specs.Desk.{line_feed, onto, cut, heard, says}
 use Rattle.desk.proofs.Cut.{first_cut}
 use Rattle.rig.specs.Meaning.{Took, Gathers}
@@ -79,12 +79,12 @@ module _ (text : List ℕ) (at end : ℕ) (found : end ≡ at + index_of line_fe
       ⊎_elim (λ e. record { rest = []; is = line_last e }) (λ m. record { rest = cut (drop (end + 1) text); is = line_fed m }) (eq-or-lt_of_le l)
 
 -- a line of the code says what the rules say
-pub took : {line image : Lent} {r : Bool} (l : Line) → l ≡ heard line.entry.now → r ≡ says l → image.exit.now ≡ placed l image.entry.now
+pub took : {line : SeenLent} {image : Lent} {r : Bool} (l : Line) → l ≡ heard line.entry.now → r ≡ says l → image.exit.now ≡ placed l image.entry.now
     → Took line image r
 took {image = image} l e a b = record { says = a ∙ ap says e; leaves = b ∙ ap (λ (x : Line). placed x image.entry.now) e }
 
 -- all lines
-pub gathers : {text image : Lent}
+pub gathers : {text : SeenLent} {image : Lent}
     → (0 ≡ first_bad 1 (cut text.entry.now)) × (image.exit.now ≡ gathered image.entry.now (cut text.entry.now)) → Gathers text image 0
 gathers e = record { says = e.0; leaves = λ _. e.1 }
 

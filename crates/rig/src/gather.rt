@@ -5,6 +5,7 @@ ghost use Rattle.desk.specs.Desk.{cut};
 ghost use Rattle.rig.specs.Meaning.{Took, Gathers};
 ghost use Rattle.rig.specs.Rig;
 
+use desk::input::find;
 use desk::obey::line_of;
 use intelhex::dump::write_hex;
 use intelhex::flags::clear;
@@ -39,7 +40,7 @@ fn gather(text: &[u8], image: &mut [u8; 32768]) -> u64
     let mut at = 0;
     let mut number: u64 = 0;
     while at < n {
-        let end = bytes::scan::find(text, at, n, b'\n');
+        let end = find(text, at, n, b'\n');
         number += 1;
         if !take_line(&text[at..end], image) {
             return number;

@@ -1,6 +1,8 @@
 // The dump of the bench file that comes from standard input.
 #![tactic(auto)]
 
-fn main() {
-    rig::whole::dump_all(0);
+use std::io;
+
+fn main(rt: HostRuntime) -> io::Result<()> {
+    rig::whole::dump_all(&mut rt.stdin(), &mut rt.stdout())
 }

@@ -1,0 +1,28 @@
+// A run that says which bytes of the image it reads.
+ghost use Rattle.machine.specs.Meaning.{◌&◌, Groups, Image, Journal, Pad, Regs, Vram};
+ghost use Rattle.export.specs.Mapped.{HearsMapped};
+
+// As a run: each byte that it reads gets 1 in a map of one byte for each of the image's.
+#[unsafe(no_mangle)]
+pub extern "C" fn argolythe_run_mapped(
+    image: &mut [u8],
+    map: &mut [u8],
+    pad: &mut [u8],
+    vdp: &mut [u8],
+    reg: &mut [u8],
+    journal: &mut [u32],
+    pc: u16,
+    used: usize,
+    ring: u8,
+    place: usize,
+    writable: u8,
+    source: u8,
+    n: u32,
+    out: &mut [u64; 7],
+) -> u8
+    ensures { HearsMapped n (Image image & Groups writable & Pad pad & Vram vdp & Regs reg & Journal journal) map pc used ring place writable source result out }
+{
+    export::mapped::argolythe_run_mapped(
+        image, map, pad, vdp, reg, journal, pc, used, ring, place, writable, source, n, out,
+    )
+}
