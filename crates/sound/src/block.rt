@@ -8,6 +8,11 @@ ghost use Rattle.sound.specs.Meaning.{Plays, room_in, due_of};
 use crate::list;
 use machine::state::Now;
 
+// Sizes that are no block of bytes: a new address, in the same source and in the other.
+const SAME: u8 = 0;
+
+const OTHER: u8 = 255;
+
 // What a block leaves: the address and the source of the one after it, how many ticks on that is due, and how many bytes were sent.
 #[derive(Clone, Copy)]
 pub struct Next {
@@ -78,10 +83,10 @@ pub fn block(
     requires { IsVram vram.now }
     ensures { Plays (due_of result) (Sound.block (room_in output) source a n) (SeenImage image & Map map & SeenVram vram) output result.sent m result.now }
 {
-    if n == 0 {
+    if n == SAME {
         return leap(image, map, vram, m, source, a, source);
     }
-    if n == 255 {
+    if n == OTHER {
         return leap(image, map, vram, m, source, a, !source);
     }
     send_block(image, map, vram, output, m, source, a, n)
