@@ -2,9 +2,11 @@
 #![tactic(auto)]
 
 use bench::at::At;
+use bench::runs::Report;
 use bench::viewer::Memory;
-use lines::parts::Part;
-use lines::print;
+use bench::walk::Reply;
+use bench::{runs, viewer, walk};
+use desk::state::{Cells, first};
 use std::io;
 use std::io::Write;
 
@@ -19,6 +21,68 @@ const SCREEN: [u8; 17] = [
     0x00,
 ];
 
+const OTHERS: [u8; 3] = [0x58, 0x59, 0x5A];
+
+// The desk's machine is larger: here are one group of GROM, and words for no more than the two cartridges note.
+#[derive(Drop)]
+struct Machine {
+    image: [u8; 8192],
+    cells: Cells,
+    journal: [u32; 64],
+    at: At,
+}
+
+impl Machine {
+    // Only the subroutine stack is set.
+    fn new(image: [u8; 8192]) -> Self {
+        let mut pad = [0; 256];
+        pad[0x73] = 0x7E;
+        let cells = Cells {
+            pad,
+            vram: [0; 16384],
+            regs: [0; 8],
+        };
+        Machine {
+            image,
+            cells,
+            journal: [0; 64],
+            at: first(),
+        }
+    }
+
+    // Up to so many steps.
+    fn run(&mut self, n: u32) -> Report {
+        let report = runs::run(
+            &mut self.image,
+            &mut self.cells.pad,
+            &mut self.cells.vram,
+            &mut self.cells.regs,
+            &mut self.journal,
+            self.at,
+            n,
+        );
+        self.at = report.at;
+        report
+    }
+
+    fn step_back(&mut self) -> Reply {
+        let reply = walk::step_back(
+            &mut self.image,
+            &mut self.cells.pad,
+            &mut self.cells.vram,
+            &mut self.cells.regs,
+            &mut self.journal,
+            self.at,
+        );
+        self.at = reply.at;
+        reply
+    }
+
+    fn view(&self, memory: Memory, len: usize) -> &[u8] {
+        viewer::view(&self.cells.pad, &self.cells.vram, memory, 0, len)
+    }
+}
+
 fn show_answer<W: Write>(
     output: &mut W,
     answer: u8,
@@ -26,112 +90,42 @@ fn show_answer<W: Write>(
     stores: u64,
     address: u16,
 ) -> io::Result<()> {
-    let mut out = [0u8; 75];
-    let count = print::put_answer(&mut out, 0, answer, steps, stores, address);
-    desk::show::write_text(output, &out, count)
-}
-
-// A cell as it is printed.
-fn show_cell<W: Write>(output: &mut W, part: Part, at: u16, byte: u8) -> io::Result<()> {
-    let mut out = [0u8; 13];
-    let count = print::put_cell(&mut out, 0, part, at, byte);
-    desk::show::write_text(output, &out, count)
+    writeln!(output, "answer\t{answer}\t{steps}\t{stores}\t{address:04X}")
 }
 
 // pc, and pad >00 and the first three screen bytes as the viewer shows them.
-fn show_place<'a, W: Write>(
-    output: &mut W,
-    pad: &'a [u8; 256],
-    vram: &'a [u8; 16384],
-    pc: u16,
-) -> io::Result<()> {
-    let mut out = [0u8; 8];
-    let count = print::put_pc(&mut out, 0, pc);
-    desk::show::write_text(output, &out, count)?;
-    let cell = bench::viewer::view(pad, vram, Memory::Cpu, 0, 1);
-    if cell.len() == 1 {
-        show_cell(output, Part::Pad, 0, cell[0])?;
+fn show_place<W: Write>(output: &mut W, machine: &Machine) -> io::Result<()> {
+    writeln!(output, "pc\t{:04X}", machine.at.pc)?;
+    for byte in machine.view(Memory::Cpu, 1) {
+        writeln!(output, "pad\t00\t{byte:02X}")?;
     }
-    let screen = bench::viewer::view(pad, vram, Memory::Vdp, 0, 3);
-    if screen.len() == 3 {
-        show_cell(output, Part::Vdp, 0, screen[0])?;
-        show_cell(output, Part::Vdp, 1, screen[1])?;
-        show_cell(output, Part::Vdp, 2, screen[2])?;
+    for (at, byte) in machine.view(Memory::Vdp, 3).iter().enumerate() {
+        writeln!(output, "vdp\t{at:04X}\t{byte:02X}")?;
     }
     Ok(())
 }
 
-// Back as many steps as were made, and once more: 12, since no step is left.
-fn walk_back<W: Write>(
-    output: &mut W,
-    image: &mut [u8; 8192],
-    pad: &mut [u8; 256],
-    vram: &mut [u8; 16384],
-    regs: &mut [u8; 8],
-    journal: &mut [u32; 64],
-    from: At,
-    steps: u32,
-) -> io::Result<()> {
-    let mut at = from;
-    let mut left = steps;
-    while left > 0 {
-        let r = bench::walk::step_back(image, pad, vram, regs, journal, at);
-        at = r.at;
-        show_place(output, pad, vram, at.pc)?;
-        left -= 1;
+// A run from 0 to the instruction that fails, back as many steps as were made, and once more: 12, since no step is left.
+fn walk<W: Write>(output: &mut W, image: [u8; 8192]) -> io::Result<()> {
+    let mut machine = Machine::new(image);
+    let run = machine.run(100);
+    show_answer(output, run.answer, run.steps, run.stores, run.address)?;
+    show_place(output, &machine)?;
+    for _ in 0..run.steps {
+        machine.step_back();
+        show_place(output, &machine)?;
     }
-    let last = bench::walk::step_back(image, pad, vram, regs, journal, at);
+    let last = machine.step_back();
     show_answer(output, last.answer, 0, last.stores, last.address)
-}
-
-// A run from 0 to the instruction that fails, and the walk back.
-fn walk<W: Write>(output: &mut W, image: &mut [u8; 8192]) -> io::Result<()> {
-    let mut pad = [0u8; 256];
-    let mut vram = [0u8; 16384];
-    let mut regs = [0u8; 8];
-    let mut journal = [0u32; 64];
-    pad[0x73] = 0x7E;
-    let start = At {
-        pc: 0,
-        used: 0,
-        ring: false,
-        place: 0,
-        writable: 0,
-        source: false,
-    };
-    let r = bench::runs::run(
-        image,
-        &mut pad,
-        &mut vram,
-        &mut regs,
-        &mut journal,
-        start,
-        100,
-    );
-    let at = r.at;
-    show_answer(output, r.answer, r.steps, r.stores, r.address)?;
-    show_place(output, &pad, &vram, at.pc)?;
-    walk_back(
-        output,
-        image,
-        &mut pad,
-        &mut vram,
-        &mut regs,
-        &mut journal,
-        at,
-        r.steps,
-    )
 }
 
 fn main(rt: HostRuntime) -> io::Result<()> {
     let mut output = rt.stdout();
-    let mut code = [0u8; 8192];
-    let mut screen = [0u8; 8192];
+    let mut code = [0; 8192];
     code[..16].copy_from_slice(&CODE);
-    walk(&mut output, &mut code)?;
+    walk(&mut output, code)?;
+    let mut screen = [0; 8192];
     screen[..17].copy_from_slice(&SCREEN);
-    screen[0x20] = 0x58;
-    screen[0x21] = 0x59;
-    screen[0x22] = 0x5A;
-    walk(&mut output, &mut screen)
+    screen[0x20..0x23].copy_from_slice(&OTHERS);
+    walk(&mut output, screen)
 }

@@ -1,14 +1,8 @@
 -- A text in lines: the first one by where its line feed is, or by what follows a text that has none; and what is told of it.
 -- Assumes nothing.
-use mathlib.Core.Path.{◌≡◌, refl, ap, ◌∙◌}
-use mathlib.Core.Bool.{Bool, true, false, cond}
-use mathlib.Core.List.{List, [], ◌∷◌, ◌++◌}
-use Prim.Native.Nat.{ℕ, suc, ◌+◌, ◌-◌, ◌≤◌, ◌<◌}
-use native.Mathlib.Omega.{arith}
-use lib.Dec.{eqb}
-use lib.ListN.{length, take, drop, length-append, length-drop, drop_of_length-le}
-use lib.Seq.{take-length, take_all, drop-drop}
-use borrow.Author.Tests.{le-leb, lt-leb}
+use Rattle.std.proofs.Common.{◌≡◌, refl, ap, ◌∙◌, sym, Bool, true, false, true≢false, cond, List, [], ◌∷◌, ◌++◌, ℕ, suc, ◌+◌, ◌-◌, ◌≤◌, ◌<◌, arith, eqb, length, take, drop, length-append, length-drop, drop_of_length-le, take_all, drop-drop, le-leb, append-nil}
+use Rattle.std.proofs.Math.Seq.{take-length}
+use Rattle.std.proofs.lemmas.Bool.{lt-leb}
 use Rattle.desk.specs.Bytes.{index_after, index_of, slice}
 use Rattle.rules.specs.Machine.{State}
 use Rattle.lines.specs.Lines.{bad, line_of}
@@ -63,6 +57,11 @@ part_cut : (t rest : List ℕ) → index_of line_feed t ≡ length t → 0 < len
 part_cut [] rest h l = absurd (omega arith)
 part_cut (c ∷ t) rest h l = cut_on c t rest h
 
+-- the last one, where nothing follows
+pub last_cut : (t : List ℕ) → index_of line_feed t ≡ length t → 0 < length t → cut t ≡ t ∷ []
+unfolding joined cut
+last_cut t h l = ap cut (sym (append-nil t)) ∙ part_cut t [] h l
+
 -- ---- what is told of it
 
 pub heard_long : (l : List ℕ) → longest < length l → heard l ≡ bad
@@ -86,7 +85,7 @@ long_told k t (l ∷ ls) ms s h = both_bad k (t ++ l) t ls ms s (heard_long (t +
 -- ---- as it is found in a text
 
 pub never : {A : Type 0} {b : Bool} → b ≡ true → b ≡ false → A
-never t f = let wrong : ◌≡◌ {A = ℕ} 0 1 = cc in absurd (omega arith)
+never t f = absurd (true≢false (sym t ∙ f))
 
 rest_of : (text : List ℕ) (at : ℕ) → slice at (length text) text ≡ drop at text
 unfolding slice

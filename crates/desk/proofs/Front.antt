@@ -1,68 +1,32 @@
--- Bytes moved to the front of a buffer, one by one; and more put after them.
+-- A part of a text moved to the front, and more bytes put after a text that is there.
 -- Assumes nothing.
-use mathlib.Core.Path.{◌≡◌, sym, ◌∙◌}
-use mathlib.Core.List.{List, [], ◌∷◌, ◌++◌, append_assoc}
-use Prim.Native.Nat.{ℕ, zero, suc, ◌+◌, ◌-◌, ◌≤◌, ◌<◌}
-use native.Mathlib.Omega.{arith}
-use native.Mathlib.Nat.{sub-zero}
-use native.Mathlib.Numerals.{add-one}
-use lib.ListN.{length, get_or, set, take, drop, length-drop, length-append}
-use lib.Seq.{take-nil, length-take-le, take-suc, drop-cons, set_at, take_at, get_or-drop, get_or-append-add, length-slice}
-use Rattle.desk.specs.Meaning.{Grows}
+use Rattle.std.proofs.Common.{◌≡◌, sym, ap, ◌∙◌, List, ℕ, ◌+◌, ◌-◌, ◌≤◌, length, take, drop, arith, zero-add, length-drop, length-take-le, take-add, ap₂, le_refl, drop_at, ◌++◌}
+use Rattle.std.proofs.lemmas.List.{take-append-le}
+use Rattle.std.proofs.lemmas.Slice.{take-put_mid_below}
+use borrow.Rule.Slice.PartMut.{put_mid, post_of}
+use Rattle.desk.specs.Bytes.{Gains}
+use Rattle.std.specs.List.{copy_within}
+use Rattle.std.proofs.lemmas.List.{drop-take}
+use Rattle.std.proofs.lemmas.List.Edits.{take-paste}
 
-middle : (from have : ℕ) (l : List ℕ) → drop from (take have l) ≡ take (have - from) (drop from l)
-middle zero have l = rw sub-zero
-middle (suc from) zero l =
-    let none : 0 - suc from ≡ 0 = omega arith in
-    rw none
-middle (suc from) (suc have) [] = rw take-nil
-middle (suc from) (suc have) (x ∷ l) =
-    let less : suc have - suc from ≡ have - from = omega arith in
-    rw less (middle from have l)
+module _ (text : List ℕ) (from end : ℕ) (h : from ≤ end) (l : end ≤ length text) where
+  pub to_front : (moved : List ℕ) → moved ≡ copy_within text from end 0 → take (end - from) moved ≡ drop from (take end text)
+  to_front moved e =
+      let whole : from + (end - from) ≡ end = omega arith in
+      let fits : end - from ≤ length (drop from text) = omega (arith, length-drop from text) in
+      ap (take (end - from)) e ∙ ap (λ (n : ℕ). take n (copy_within text from end 0)) (sym (zero-add (end - from)))
+      ∙ take-paste text 0 (drop from text) (end - from) (omega arith) fits
+      ∙ sym (drop-take from (end - from) text) ∙ ap (λ (n : ℕ). drop from (take n text)) whole
 
--- the first i bytes from a place on are at the front, and the rest stands as it did
-abbrev pub moved : List ℕ → ℕ → ℕ → List ℕ
-moved text from i = take i (drop from text) ++ drop i text
-
-module _ (text : List ℕ) (from have : ℕ) (h : from ≤ have) (l : have ≤ length text) where
-  size : (i : ℕ) → i ≤ have - from → length (take i (drop from text)) ≡ i
-  size i g = length-take-le i (drop from text) (omega (arith, length-drop from text))
-
-  -- a byte that is not at the front yet is where it was
-  there : (i : ℕ) → i < have - from → get_or (moved text from i) (from + i) 0 ≡ get_or text (from + i) 0
-  there i g =
-      let far : from + i ≡ length (take i (drop from text)) + from = omega (arith, size i (omega arith)) in
-      rw (far, get_or-append-add (take i (drop from text)) (drop i text) from 0, get_or-drop i text from 0, size i (omega arith))
-
-  pub moved_on : (i : ℕ) → i < have - from → set (moved text from i) i (get_or (moved text from i) (from + i) 0) ≡ moved text from (i + 1)
-  moved_on i g =
-      let here : i < length text = omega arith in
-      let one : i < length (drop from text) = omega (arith, length-drop from text) in
-      rw (
-        there i g,
-        drop-cons text i 0 here,
-        set_at (take i (drop from text)) _ _ (get_or text (from + i) 0) i (size i (omega arith)),
-        add-one,
-        take-suc (drop from text) i 0 one,
-        get_or-drop from text i 0,
-        append_assoc,
-      )
-
-  pub moved_all : take (have - from) (moved text from (have - from)) ≡ drop from (take have text)
-  moved_all = take_at (take (have - from) (drop from text)) _ (have - from) (size (have - from) (omega arith)) ∙ sym (middle from have text)
-
-  pub kept_size : length (drop from (take have text)) ≡ have - from
-  kept_size = length-slice from have text l
-
--- what is read after a text that is at the front
-pub grows : (u mid read post : List ℕ) (r count : ℕ) → length u ≡ r → take r mid ≡ u → r ≤ length mid → count ≤ length read
-    → Grows u (take r mid ++ (read ++ post)) (r + count)
-grows u mid read post r count e f h l =
+-- so many of the bytes that are read after the first ones of a text
+pub gained : (text read : List ℕ) (len k n : ℕ) {was : List ℕ} → len ≤ length text → n ≤ length read → take len text ≡ was
+    → Gains was (take (len + n) (put_mid len k text read)) n
+gained text read len k n {was} h l e =
     record {
-      keeps = rw e (take_at (take r mid) (read ++ post) r (length-take-le r mid h) ∙ f);
-      more = omega arith;
-      fits = simp length-append (omega (arith, length-take-le r mid h));
+      more = take n read;
+      is =
+          take-add len n (put_mid len k text read)
+          ∙ ap₂ (λ (x y : List ℕ). x ++ take n y) (take-put_mid_below len k text read len (le_refl len) h ∙ e) (drop_at (take len text) (read ++ post_of len k text) len (length-take-le len text h))
+          ∙ ap (λ (x : List ℕ). was ++ x) (take-append-le n read (post_of len k text) l);
+      count = length-take-le n read l;
     }
-
-pub grown_size : {u buffer : List ℕ} {n : ℕ} → Grows u buffer n → length (take n buffer) ≡ n
-grown_size {buffer = buffer} {n = n} g = length-take-le n buffer g.fits

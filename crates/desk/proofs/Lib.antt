@@ -1,6 +1,5 @@
 pub mod Cut
 pub mod Front
-pub mod Laws
 pub mod Long
 pub mod Promises
 pub mod Samples

@@ -1,15 +1,7 @@
 -- The limit on a line's length takes nothing away but leading zeros of a `run`: any other line that is longer says nothing anyway.
 -- Assumes nothing.
-use mathlib.Core.Path.{◌≡◌, refl, sym, ◌∙◌}
-use mathlib.Core.Bool.{Bool, true, false, cond}
-use mathlib.Core.List.{List}
-use mathlib.Core.Logic.{⊎_elim}
-use mathlib.Core.Option.{Option, none, some}
-use Prim.Native.Nat.{ℕ, suc, ◌+◌, ◌≤◌, ◌<◌}
-use native.Mathlib.Omega.{arith}
-use lib.Dec.{leb, eqb}
-use lib.ListN.{length, get_or, drop, length-drop}
-use borrow.Author.Tests.{lt-leb, eqb-false}
+use Rattle.std.proofs.Common.{◌≡◌, refl, sym, ◌∙◌, Bool, true, false, List, ⊎_elim, Option, None, Some, ℕ, suc, ◌+◌, ◌≤◌, ◌<◌, arith, leb, eqb, length, get_or, drop, length-drop, cond}
+use Rattle.std.proofs.lemmas.Bool.{lt-leb, eqb-false}
 use Rattle.lines.specs.Digits.{byte_count, bytes, begins}
 use Rattle.lines.specs.Lines.{Part, grom, pad, vdp, reg, Line, sets, bad, tab, opening, pc_opening, run_opening, places, size, placed, set_line, go_line, line_of}
 use Rattle.lines.proofs.Reading.{two_each, pc_other}
@@ -29,8 +21,8 @@ past false p at s h e = rw (lt-leb (at + byte_count s) (size p) (omega (arith, t
 
 placed_past : (p : Part) (y : Option ℕ) (s : List ℕ) → 65536 < length s → placed p y s ≡ bad
 unfolding placed
-placed_past p none s h = refl
-placed_past p (some at) s h = past (eqb (byte_count s) 0) p at s h refl
+placed_past p None s h = refl
+placed_past p (Some at) s h = past (eqb (byte_count s) 0) p at s h refl
 
 set_past : (p : Part) (n : ℕ) (l : List ℕ) → n ≤ 5 → longest < length l → set_line p (drop n l) ≡ bad
 unfolding set_line

@@ -1,17 +1,10 @@
 -- Pieces and turns, one after the other, come to what a whole input prints.
 -- Assumes nothing.
-use mathlib.Core.Path.{◌≡◌, refl, sym, ap, ◌∙◌, subst}
-use mathlib.Core.Bool.{Bool, true, false}
-use mathlib.Core.List.{List, [], ◌++◌, append_assoc, append-nil}
-use mathlib.Core.Logic.{⊎_elim}
-use Prim.Native.Nat.{ℕ, ◌+◌, ◌-◌, ◌*◌, ◌≤◌, ◌<◌}
-use native.Mathlib.Omega.{arith}
-use lib.ListN.{length, take, drop, take-append-drop}
-use lib.Seq.{take-take}
+use Rattle.std.proofs.Common.{◌≡◌, refl, sym, ap, ◌∙◌, subst, Bool, true, false, List, [], ◌++◌, append_assoc, append-nil, ℕ}
 use Rattle.rules.specs.Machine.{State}
-use Rattle.lines.proofs.Widths.{either}
 use Rattle.desk.specs.Desk.{cut, told, start, whole}
-use Rattle.desk.specs.Meaning.{Follows, Grows, Point, point, to_come, Tells, Said, Spoken}
+use Rattle.desk.specs.Meaning.{Follows, Point, point, to_come, Tells, Said, Spoken}
+use Rattle.desk.specs.Bytes.{Gains}
 use Rattle.desk.specs.Promised.{Obeying, begun, reads, ends, tells, Midway}
 
 -- whatever follows what was read: all that is printed is what was printed, and what is to come
@@ -43,22 +36,14 @@ all_said {text} false s = ap whole (sym (append-nil text)) ∙ at_bad (ends (rea
 pub midway_none : {s : State} → s ≡ start → Midway (point 0 [] s)
 midway_none e = rw e (record { input = []; output = []; obeying = begun })
 
--- a piece more is read: the buffer's first bytes are what was left, and that piece
-pub midway_read : {k n : ℕ} {u buffer : List ℕ} {s : State} → Midway (point k u s) → Grows u buffer n → Midway (point k (take n buffer) s)
-midway_read {k} {n} {u} {buffer} {s} h g =
-    let piece : List ℕ = drop (length u) (take n buffer) in
-    let both : u ++ piece ≡ take n buffer =
-    ap (λ (x : List ℕ). x ++ piece) (sym (take-take (length u) n buffer g.more ∙ g.keeps)) ∙ take-append-drop (length u) (take n buffer) in
+-- a piece more is read
+pub midway_read : {k n : ℕ} {u v : List ℕ} {s : State} → Midway (point k u s) → Gains u v n → Midway (point k v s)
+midway_read {k} {s = s} h g =
     record {
-      input = h.input ++ piece;
+      input = h.input ++ g.more;
       output = h.output;
-      obeying = subst (λ (x : List ℕ). Obeying false (h.input ++ piece) h.output (point k x s)) both (reads piece h.obeying);
+      obeying = subst (λ (x : List ℕ). Obeying false (h.input ++ g.more) h.output (point k x s)) (sym g.is) (reads g.more h.obeying);
     }
 
 pub midway_on : {ended good : Bool} {p q : Point} → Midway p → ended ≡ false → good ≡ true → Said ended p good q → Midway q
 midway_on h e g s = record { input = h.input; output = h.output ++ s.text; obeying = tells h.obeying (rw (e, g) at s.tells) }
-
--- each turn of it obeys a line, or leaves more than the one before
-pub less : (last k k₁ kept n from : ℕ) → k < last → k ≤ k₁ → (k₁ ≡ k → from ≡ 0) → kept < n → n ≤ 65547
-    → (last - k₁) * 65548 + (65547 - (n - from)) < (last - k) * 65548 + (65547 - kept)
-less last k k₁ kept n from h l s g b = ⊎_elim (λ m. omega arith) (λ m. omega (arith, s (omega arith))) (either k k₁)

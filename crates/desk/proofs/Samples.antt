@@ -1,7 +1,6 @@
 -- Whole inputs and what they print: 01's sample, lines that say nothing, and a last line without its line feed. By computing.
 -- Assumes nothing.
-use mathlib.Core.Path.{◌≡◌, refl}
-use mathlib.Core.List.{◌++◌}
+use Rattle.std.proofs.Common.{◌≡◌, refl, ◌++◌}
 use Rattle.rules.proofs.Compute.{every_rule}
 use Rattle.lines.specs.Ascii.{ascii}
 use Rattle.lines.specs.Digits.{before, digit, glyph, numeral_from, numeral, up_to, digits_of, width_in, width, show_decimal, show_hex}

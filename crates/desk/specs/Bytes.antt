@@ -1,5 +1,5 @@
--- Bytes between two places of a list, and where a byte first stands in one.
-use Rattle.std.specs.Prelude.{Bool, true, false, List, [], ◌∷◌, ℕ, suc, eqb, take, drop}
+-- Bytes between two places of a list, where a byte first stands in one, and bytes that come after others.
+use Rattle.std.specs.Prelude.{◌≡◌, Bool, true, false, List, [], ◌∷◌, ◌++◌, ℕ, suc, eqb, length, take, drop}
 
 -- from a place up to another
 unfoldable pub slice : ℕ → ℕ → List ℕ → List ℕ
@@ -14,3 +14,9 @@ index_after false n = suc n
 unfoldable pub index_of : ℕ → List ℕ → ℕ
 index_of b [] = 0
 index_of b (c ∷ cs) = index_after (eqb c b) (index_of b cs)
+
+-- a text, and so many bytes more
+pub record Gains (was now : List ℕ) (n : ℕ) : Type 0 where
+  pub more : List ℕ
+  pub is : now ≡ was ++ more
+  pub count : length more ≡ n

@@ -1,52 +1,68 @@
 -- What the code's values say of the machine on the desk, and what its contracts say.
-use Rattle.std.specs.Prelude.{◌≡◌, Bool, true, false, cond, List, [], ◌∷◌, ◌++◌, ℕ, suc, ◌+◌, ◌-◌, ◌≤◌, ◌<◌, length, take, drop}
-use Rattle.machine.specs.Meaning.{Lent, SeenLent, Parts, Rest, unmapped}
+use Rattle.std.specs.Prelude.{◌≡◌, Bool, true, false, cond, List, [], ◌∷◌, ◌++◌, ℕ, suc, ◌+◌, ◌-◌, ◌≤◌, ◌<◌, length, take, drop, Option, Some, None, Result, Ok, Err, is_ok}
+use Rattle.std.specs.Borrow.{MutBor}
+use denote.Triple.Both.{Both}
+use Rattle.machine.specs.Meaning.{Lent, SeenLent}
 use Rattle.rules.specs.Machine.{State}
-use Rattle.bench.specs.Meaning.{returned_by, stands_at, lent_to}
+use Rattle.rules.specs.Answers.{saying}
+use Rattle.rules.specs.Calls as calls
+use Rattle.bench.specs.Meaning.{state_at}
 use Rattle.bench.specs.declared.at.At.{At}
 use Rattle.bench.specs.declared.runs.Report.{Report}
 use Rattle.lines.specs.Lines as lines
 use Rattle.lines.specs.Shown.{run_lines, Front}
 use Rattle.desk.specs.Bytes.{index_of}
 use Rattle.desk.specs.Desk.{obeyed, printed, says, line_feed, cut, longest, told}
-use Rattle.desk.specs.declared.input.Found.{Found}
-use Rattle.desk.specs.declared.input.Found.TheVariants.{Line, Part}
-use Rattle.desk.specs.declared.obey.Stand.{Stand}
+use Rattle.desk.specs.declared.input.Span.{Span}
+use Rattle.desk.specs.declared.state.Cells.{Cells}
+use Rattle.desk.specs.declared.state.Machine.{Machine}
+use Rattle.desk.specs.declared.obey.BadLine.{BadLine}
 use Rattle.desk.specs.declared.turns.Place.{Place}
-use Rattle.desk.specs.declared.turns.Turn.{Turn}
+use Rattle.desk.specs.declared.whole.Halt.{Halt}
+use Rattle.desk.specs.declared.whole.Halt.TheVariants as halt
 
 -- "all not set is 0": pc, the words of the journal that are used, the writable groups and the source flag; and the journal is no ring
 abbrev pub outset : At
 outset = record { pc = 0; used = 0; ring = false; place = 0; writable = 0; source = false }
 
--- the state that a function leaves, where q are the parts that it sees: the parts as they are, and where the machine stands beside them
-abbrev pub standing : (q : Parts) → Rest q → At → State
-standing q rest at = stands_at (returned_by q rest at) at
+-- a machine as the rules have it
+abbrev pub state_of : Machine → State
+state_of m = state_at m.image m.cells.pad m.cells.vram m.cells.regs m.journal m.at
+
+-- one that is lent: before the call and after it
+abbrev pub LentMachine : Type 0
+LentMachine = Both (MutBor Machine) (MutBor Machine)
+
+-- a run of up to n steps: its report is the rules', with the machine as it leaves it
+pub record Runs (n : ℕ) (m m₁ : Machine) (r : Report) : Type 0 where
+  pub is : calls.report (saying r.answer r.address) r.steps r.stores (state_of m₁) ≡ calls.run n (state_of m)
+  pub at : m₁.at ≡ r.at
+
+abbrev pub Ran : ℕ → LentMachine → Report → Type 0
+Ran n m r = Runs n m.entry.now m.exit.now r
 
 -- ---- a line obeyed
 
--- nothing to print
-abbrev pub quietly : At → Stand
-quietly at = record { at = at; count = 0; good = true }
+-- how many bytes are printed: of a line that says something, or of one that does not
+abbrev pub printed_by : Result ℕ BadLine → ℕ
+printed_by (Ok n) = n
+printed_by (Err b) = b.count
 
 -- what the k-th line leaves of a machine, what it prints at the front of a buffer, and whether it was taken
-pub record Obeyed (k : ℕ) (l : lines.Line) (s s₁ : State) (buffer : List ℕ) (r : Stand) : Type 0 where
+pub record Obeyed (k : ℕ) (l : lines.Line) (s s₁ : State) (buffer : List ℕ) (r : Result ℕ BadLine) : Type 0 where
   pub leaves : s₁ ≡ obeyed l s
-  pub prints : Front (printed k l s) buffer r.count
-  pub taken : r.good ≡ says l
+  pub prints : Front (printed k l s) buffer (printed_by r)
+  pub taken : is_ok r ≡ says l
 
--- as a contract has it, of the parts that are lent, a lent buffer, and where the machine stands
-abbrev pub Obeys : ℕ → lines.Line → (Parts → Parts) → Lent → At → Stand → Type 0
-Obeys k l parts out at r =
-    (rest : Rest (parts unmapped)) → Obeyed k l (lent_to (parts unmapped) rest at) (standing (parts unmapped) rest r.at) out.exit.now r
+-- as a contract has it, of a machine and a buffer that are lent
+abbrev pub Obeys : ℕ → lines.Line → LentMachine → Lent → Result ℕ BadLine → Type 0
+Obeys k l m out r = Obeyed k l (state_of m.entry.now) (state_of m.exit.now) out.exit.now r
 
 -- ---- what a run prints
 
 -- its report, with pad, VDP RAM and registers before it and after it
-abbrev pub report_text : Report → SeenLent → SeenLent → SeenLent → SeenLent → SeenLent → SeenLent → List ℕ
-report_text r p₀ p v₀ v g₀ g =
-    run_lines r.answer r.steps r.stores r.address r.at.pc
-    p₀.entry.now p.entry.now v₀.entry.now v.entry.now g₀.entry.now g.entry.now
+abbrev pub report_text : Report → Cells → Cells → List ℕ
+report_text r was is = run_lines r.answer r.steps r.stores r.address r.at.pc was.pad is.pad was.vram is.vram was.regs is.regs
 
 -- ---- an input, of which a text has been read
 
@@ -70,15 +86,9 @@ pub record Heads (ended : Bool) (text : List ℕ) (at end next : ℕ) : Type 0 w
   pub same : (k : ℕ) (s : State) (rest : List ℕ) → Follows ended rest
       → told k (cut (drop at text ++ rest)) s ≡ told k (take (end - at) (drop at text) ∷ cut (drop next text ++ rest)) s
 
-abbrev pub Finds : Bool → List ℕ → ℕ → Found → Type 0
-Finds ended text at (Line end next) = Heads ended text at end next
-Finds ended text at Part = Waits ended (drop at text)
-
--- the first bytes of a buffer are a text and perhaps more
-pub record Grows (text buffer : List ℕ) (count : ℕ) : Type 0 where
-  pub keeps : take (length text) buffer ≡ text
-  pub more : length text ≤ count
-  pub fits : count ≤ length buffer
+abbrev pub Finds : Bool → List ℕ → ℕ → Option Span → Type 0
+Finds ended text at (Some l) = Heads ended text at l.end l.next
+Finds ended text at None = Waits ended (drop at text)
 
 -- ---- an input obeyed
 
@@ -101,7 +111,7 @@ pub record Tells (ended : Bool) (p : Point) (text : List ℕ) (good : Bool) (q :
 
 -- before the first line
 abbrev pub foremost : Place
-foremost = record { from = 0; number = 0; at = outset }
+foremost = record { from = 0; number = 0 }
 
 -- a place in a text that lies after another: no more lines than bytes are between them, and none where no line is
 pub record Onward (text : List ℕ) (p q : Place) : Type 0 where
@@ -115,11 +125,11 @@ abbrev pub Numbered : List ℕ → Place → Type 0
 Numbered text p = (p.from ≤ length text) × (p.number + length text ≤ p.from + 18446744073709551615)
 
 -- the next text that is printed is at the front of a buffer; where none is, no line is whole
-pub record Turned (ended : Bool) (p q : Point) (buffer : List ℕ) (r : Turn) : Type 0 where
-  pub tells : Tells ended p (take r.count buffer) r.good q
-  pub fits : r.count ≤ length buffer
-  pub waits : r.count ≡ 0 → Waits ended q.left
-  pub moves : (r.count ≡ 0 → ⊥) → p.lines < q.lines
+pub record Turned (ended : Bool) (p q : Point) (buffer : List ℕ) (r : Result ℕ BadLine) : Type 0 where
+  pub tells : Tells ended p (take (printed_by r) buffer) (is_ok r) q
+  pub fits : printed_by r ≤ length buffer
+  pub waits : printed_by r ≡ 0 → Waits ended q.left
+  pub moves : (printed_by r ≡ 0 → ⊥) → p.lines < q.lines
 
 -- some text was printed
 pub record Said (ended : Bool) (p : Point) (good : Bool) (q : Point) : Type 0 where
@@ -131,19 +141,30 @@ pub record Spoken (ended : Bool) (p : Point) (good : Bool) (q : Point) : Type 0 
   pub said : Said ended p good q
   pub waits : good ≡ true → Waits ended q.left
 
--- as a contract has it: from a place in a text to another, of the parts that are lent
-abbrev pub Between : (Point → Point → Type 0) → List ℕ → Place → (Parts → Parts) → Place → Type 0
-Between R text p parts q =
-    Onward text p q
-    × ((rest : Rest (parts unmapped)) → R (point p.number (drop p.from text) (lent_to (parts unmapped) rest p.at))
-    (point q.number (drop q.from text) (standing (parts unmapped) rest q.at)))
+-- from a place in a text to another, where the machine goes from m to n
+abbrev pub Between : (Point → Point → Type 0) → List ℕ → Place → Machine → Place → Machine → Type 0
+Between R text p m q n =
+    Onward text p q × R (point p.number (drop p.from text) (state_of m)) (point q.number (drop q.from text) (state_of n))
 
-abbrev pub Turns : Bool → SeenLent → Place → (Parts → Parts) → Lent → Turn → Type 0
-Turns ended text p parts out r = Between (λ x y. Turned ended x y out.exit.now r) text.entry.now p parts r.place
+-- a place that is lent
+abbrev pub LentPlace : Type 0
+LentPlace = Both (MutBor Place) (MutBor Place)
 
-abbrev pub Speaks : Bool → SeenLent → Place → (Parts → Parts) → Turn → Type 0
-Speaks ended text p parts r = Between (λ x y. Spoken ended x r.good y) text.entry.now p parts r.place
+-- as a contract has it, of a place and a machine that are lent
+abbrev pub Passes : (Point → Point → Type 0) → SeenLent → LentPlace → LentMachine → Type 0
+Passes R text p m = Between R text.entry.now p.entry.now m.entry.now p.exit.now m.exit.now
 
--- where a text could not be written: what was told up to it leads to some place, and the machine stands as it does there
-abbrev pub Breaks : Bool → SeenLent → Place → (Parts → Parts) → Type 0
-Breaks ended text p parts = (q : Place) × ((good : Bool) × Between (λ x y. Said ended x good y) text.entry.now p parts q)
+abbrev pub Turns : Bool → SeenLent → LentPlace → LentMachine → Lent → Result ℕ BadLine → Type 0
+Turns ended text p m out r = Passes (λ x y. Turned ended x y out.exit.now r) text p m
+
+abbrev pub Speaks : Bool → SeenLent → LentPlace → LentMachine → Bool → Type 0
+Speaks ended text p m good = Passes (λ x y. Spoken ended x good y) text p m
+
+-- where a text could not be written: what was told up to it leads to the place, and the machine stands as it does there
+abbrev pub Breaks : Bool → SeenLent → LentPlace → LentMachine → Type 0
+Breaks ended text p m = (good : Bool) × Passes (λ x y. Said ended x good y) text p m
+
+-- where a text is not obeyed to its end: up to a line that says nothing, or up to a text that could not be written
+abbrev pub Halts : Bool → SeenLent → LentPlace → LentMachine → Halt → Type 0
+Halts ended text p m halt.BadLine = Speaks ended text p m false
+Halts ended text p m (halt.Io _) = Breaks ended text p m

@@ -3,6 +3,8 @@
 
 pub mod input;
 pub mod obey;
+pub mod pending;
 pub mod show;
+pub mod state;
 pub mod turns;
 pub mod whole;

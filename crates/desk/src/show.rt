@@ -4,31 +4,25 @@ ghost use Rattle.std.specs.Io.KnownBytes.{Appends};
 ghost use Rattle.lines.specs.Shown.{Front};
 ghost use Rattle.desk.specs.Meaning.{report_text};
 
+use crate::state::Cells;
 use bench::runs::Report;
 use lines::parts::Part;
 use lines::print;
 use std::io;
 use std::io::Write;
 
-// Its answer, its pc, and each cell that it changed; `pad0`, `vram0` and `regs0` are the parts before it. 216,507 bytes are enough: 83 for two
-// lines, 13 for each cell.
-pub fn put_run(
-    out: &mut [u8; 216507],
-    r: Report,
-    pad0: &[u8; 256],
-    pad: &[u8; 256],
-    vram0: &[u8; 16384],
-    vram: &[u8; 16384],
-    regs0: &[u8; 8],
-    regs: &[u8; 8],
-) -> usize
-    ensures { Front (report_text r pad0 pad vram0 vram regs0 regs) out.new result }
+// Room for all that a run prints: 83 bytes for two lines, 13 for each cell.
+pub const ROOM: usize = 216507;
+
+// Its answer, its pc, and each cell that it changed; `was` are the cells before it.
+pub fn put_run(out: &mut [u8; ROOM], r: Report, was: &Cells, is: &Cells) -> usize
+    ensures { Front (report_text r was.now is.now) out.new result }
 {
     let a = print::put_answer(out, 0, r.answer, r.steps, r.stores, r.address);
     let b = print::put_pc(out, a, r.at.pc);
-    let c = print::put_changed(out, b, Part::Pad, pad0, pad);
-    let d = print::put_changed(out, c, Part::Vdp, vram0, vram);
-    print::put_changed(out, d, Part::Reg, regs0, regs)
+    let c = print::put_changed(out, b, Part::Pad, &was.pad, &is.pad);
+    let d = print::put_changed(out, c, Part::Vdp, &was.vram, &is.vram);
+    print::put_changed(out, d, Part::Reg, &was.regs, &is.regs)
 }
 
 // The first `count` bytes of a text, written.

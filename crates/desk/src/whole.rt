@@ -1,44 +1,55 @@
 // An input read, obeyed, and what it prints written.
-ghost use Rattle.std.specs.Prelude.{◌≡◌, length, IfOk, OnErr};
-ghost use Rattle.machine.specs.Meaning.{◌&◌, Groups, Image, Pad, Vram, Regs, Journal};
-ghost use Rattle.bench.specs.Meaning.{state_at};
+ghost use Rattle.std.specs.Prelude.{◌≡◌, [], true, OnOk, IfErr};
 ghost use Rattle.desk.specs.Desk.{start};
-ghost use Rattle.desk.specs.Meaning.{Numbered, outset, Speaks, Breaks};
+ghost use Rattle.desk.specs.declared.whole.Halt.TheVariants.{Io};
+ghost use Rattle.desk.specs.Meaning.{Numbered, state_of, Speaks, Halts};
 
-use crate::turns::{Place, Turn};
-use crate::{input, show, turns};
+use crate::input::PIECE;
+use crate::pending::Pending;
+use crate::show::ROOM;
+use crate::state::Machine;
+use crate::turns::Place;
+use crate::{show, turns};
 use std::io;
 use std::io::{Read, Write};
 
-// The lines of a text obeyed, as far as it has whole ones, and what they print written. A text that can't be written ends it.
+// Why no more is obeyed: a line says nothing, or more can't be read or written.
+#[derive(Drop)]
+enum Halt {
+    BadLine,
+    Io(io::Error),
+}
+
+impl From<io::Error> for Halt {
+    ghost from_gives = { λ e h. h ≡ Io e };
+
+    fn from(error: io::Error) -> Self {
+        Halt::Io(error)
+    }
+}
+
+// The lines of a text obeyed, as far as it has whole ones, and what they print written.
 fn obey_text<W: Write>(
     output: &mut W,
     text: &[u8],
     ended: bool,
-    from: Place,
-    image: &mut [u8; 32768],
-    pad: &mut [u8; 256],
-    vram: &mut [u8; 16384],
-    regs: &mut [u8; 8],
-    journal: &mut [u32; 16384],
-    out: &mut [u8; 216507],
-) -> io::Result<Turn>
-    requires { Numbered text.now from }
-    ensures ok { IfOk result (λ turn. Speaks ended text from (Image image & Groups from.at.writable & Pad pad & Vram vram & Regs regs & Journal journal) turn) }
-    ensures err { OnErr result (Breaks ended text from (Image image & Groups from.at.writable & Pad pad & Vram vram & Regs regs & Journal journal)) }
+    place: &mut Place,
+    machine: &mut Machine,
+    out: &mut [u8; ROOM],
+) -> Result<(), Halt>
+    requires { Numbered text.now place.old }
+    ensures ok { OnOk result (Speaks ended text place machine true) }
+    ensures err { IfErr result (Halts ended text place machine) }
 {
-    let mut place = from;
     loop {
-        let turn = turns::next_text(text, ended, place, image, pad, vram, regs, journal, out);
-        show::write_text(output, out, turn.count)?;
-        if turn.count == 0 {
-            return Ok(turn);
+        match turns::next_text(text, ended, place, machine, out) {
+            Ok(0) => return Ok(()),
+            Ok(count) => show::write_text(output, out, count)?,
+            Err(bad) => {
+                show::write_text(output, out, bad.count)?;
+                return Err(Halt::BadLine);
+            }
         }
-        if !turn.good {
-            return Ok(turn);
-        }
-        let after = turn.place;
-        place = after;
     }
 }
 
@@ -49,59 +60,33 @@ const LAST: u64 = u64::MAX - 65547;
 fn obey_input<R: Read, W: Write>(
     input: &mut R,
     output: &mut W,
-    text: &mut [u8],
-    image: &mut [u8; 32768],
-    pad: &mut [u8; 256],
-    vram: &mut [u8; 16384],
-    regs: &mut [u8; 8],
-    journal: &mut [u32; 16384],
-    out: &mut [u8; 216507],
-) -> io::Result<()>
-    requires { (length text.old ≡ 65547) × (state_at image.old pad.old vram.old regs.old journal.old outset ≡ start) }
+    pending: &mut Pending<PIECE>,
+    machine: &mut Machine,
+    out: &mut [u8; ROOM],
+) -> Result<(), Halt>
+    requires { (pending.old ≡ []) × (state_of machine.old ≡ start) }
 {
-    let mut place = turns::first();
-    let mut have = 0;
+    let mut place = Place::first();
     while place.number < LAST {
-        let from = place.from;
-        let kept = have - from;
-        have = input::refill(input, text, from, have)?;
+        let ended = pending.refill(input)? == 0;
         place.from = 0;
-        let ended = have == kept;
-        let piece = &text[..have];
-        let turn = obey_text(
-            output, piece, ended, place, image, pad, vram, regs, journal, out,
-        )?;
+        obey_text(output, pending.bytes(), ended, &mut place, machine, out)?;
+        pending.pass(place.from);
         if ended {
             return Ok(());
         }
-        if !turn.good {
-            return Ok(());
-        }
-        let after = turn.place;
-        place = after;
     }
     Ok(())
 }
 
-// The machine on the desk, all 0. A text with one byte more than the longest line that says something has a whole line.
+// The machine on the desk, all 0.
 // The error is that of a read or a write that failed: nothing is read or printed after it.
 pub fn obey_all<R: Read, W: Write>(input: &mut R, output: &mut W) -> io::Result<()> {
-    let mut text = [0u8; 65547];
-    let mut image = [0u8; 32768];
-    let mut pad = [0u8; 256];
-    let mut vram = [0u8; 16384];
-    let mut regs = [0u8; 8];
-    let mut journal = [0u32; 16384];
-    let mut out = [0u8; 216507];
-    obey_input(
-        input,
-        output,
-        &mut text,
-        &mut image,
-        &mut pad,
-        &mut vram,
-        &mut regs,
-        &mut journal,
-        &mut out,
-    )
+    let mut pending = Pending::new();
+    let mut machine = Machine::new();
+    let mut out = [0u8; ROOM];
+    match obey_input(input, output, &mut pending, &mut machine, &mut out) {
+        Ok(()) | Err(Halt::BadLine) => Ok(()),
+        Err(Halt::Io(error)) => Err(error),
+    }
 }

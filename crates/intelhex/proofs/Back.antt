@@ -1,16 +1,13 @@
 -- Written and read back, an image is the same.
 -- Assumes nothing.
-use mathlib.Core.Path.{◌≡◌, refl, sym, ap, ◌∙◌}
-use mathlib.Core.Bool.{Bool, true, false, cond, ◌&&◌}
-use mathlib.Core.List.{List, [], ◌∷◌, ◌++◌, append_assoc, append-nil, map}
-use Prim.Native.Nat.{ℕ, zero, suc, ◌+◌, ◌*◌, ◌/◌, ◌%◌, ◌≤◌, ◌<◌}
-use native.Mathlib.Nat.{eq-or-lt_of_le, le_of_suc-le-suc, not-suc-le-zero, mod-lt}
-use native.Mathlib.Omega.{arith}
-use mathlib.Core.Logic.{⊎_elim}
-use lib.Dec.{T, eqb, ltb, eqb→eq}
-use lib.ListN.{length, set, take, drop, replicate, length-append, length-drop, length-replicate, length-set, take-append-drop}
-use lib.Seq.{drop-set-lt, drop-drop, take_at, take_all, length-take-le, sets, sets-eq}
-use borrow.Author.Tests.{lt-ltb, le-leb, eq-eqb, eqb-true}
+use Rattle.std.proofs.Common.{◌≡◌, refl, sym, ap, ◌∙◌, Bool, true, false, cond, List, [], ◌∷◌, ◌++◌, append_assoc, append-nil, map, ℕ}
+use Rattle.std.proofs.Common.{zero, suc, ◌+◌, ◌*◌, ◌/◌, ◌%◌, ◌≤◌, ◌<◌, mod-lt, arith}
+use Rattle.std.proofs.Common.{eqb, ltb, length, set, take, drop, replicate, length-append, length-drop, length-set}
+use Rattle.std.proofs.Common.{take-append-drop, drop-set-lt, drop-drop, take_at, take_all, length-take-le, lt-ltb, le-leb, eq-eqb, eqb-true}
+use Rattle.std.proofs.Math.ListN.{length-replicate}
+use Rattle.std.proofs.Math.Seq.{sets, sets-eq}
+use Rattle.std.proofs.Common.{true≢false, eqb-true}
+use Rattle.lines.proofs.Numerals.{tested}
 use Rattle.lines.specs.Ascii.{ascii}
 use Rattle.lines.specs.Digits as lines
 use Rattle.lines.specs.Digits.{glyph, digits_of, show_hex, laid}
@@ -45,42 +42,25 @@ lines_clean (c ∷ s) rest (char l r d) = onto_line c (s ++ lf ∷ rest) s (line
 
 -- ---- digits
 
-abbrev below : (ℕ → Bool) → ℕ → Bool
-below f zero = true
-below f (suc n) = f n && below f n
-
-first : (a b : Bool) → T (a && b) → T a
-first true b t = tt
-first false b t = absurd t
-
-second : (a b : Bool) → T (a && b) → T b
-second true b t = t
-second false b t = absurd t
-
-tested : (f : ℕ → Bool) (n : ℕ) → T (below f n) → (k : ℕ) → k < n → T (f k)
-tested f zero t k h = absurd (not-suc-le-zero h)
-tested f (suc n) t k h =
-    ⊎_elim (λ e. rw e (first (f n) (below f n) t)) (λ l. tested f n (second (f n) (below f n) t) k l) (eq-or-lt_of_le (le_of_suc-le-suc h))
-
 -- each digit is neither LF nor CR, and says its number
 good : ℕ → Bool
 good k = cond (eqb lf (glyph k)) false (cond (eqb cr (glyph k)) false (eqb (value (glyph k)) k))
 
-split3 : (a b c : Bool) → T (cond a false (cond b false c)) → (a ≡ false) × (b ≡ false) × T c
-split3 true b c t = absurd t
-split3 false true c t = absurd t
+split3 : (a b c : Bool) → cond a false (cond b false c) ≡ true → (a ≡ false) × (b ≡ false) × (c ≡ true)
+split3 true b c t = absurd (true≢false (sym t))
+split3 false true c t = absurd (true≢false (sym t))
 split3 false false c t = (refl, refl, t)
 
-all_good : (k : ℕ) → k < 16 → T (good k)
+all_good : (k : ℕ) → k < 16 → good k ≡ true
 unfolding good glyph value lines.digit lines.before
-all_good k h = tested good 16 tt k h
+all_good k h = tested good 16 refl k h
 
-parts : (k : ℕ) → k < 16 → (eqb lf (glyph k) ≡ false) × (eqb cr (glyph k) ≡ false) × T (eqb (value (glyph k)) k)
+parts : (k : ℕ) → k < 16 → (eqb lf (glyph k) ≡ false) × (eqb cr (glyph k) ≡ false) × (eqb (value (glyph k)) k ≡ true)
 unfolding good
 parts k h = split3 (eqb lf (glyph k)) (eqb cr (glyph k)) (eqb (value (glyph k)) k) (all_good k h)
 
 value_glyph : (k : ℕ) → k < 16 → value (glyph k) ≡ k
-value_glyph k h = eqb→eq _ _ (parts k h).2
+value_glyph k h = eqb-true _ _ (parts k h).2
 
 low : (n : ℕ) → n % 16 < 16
 low n = mod-lt n (omega arith)

@@ -1,33 +1,28 @@
 -- The first line of a text, and what is left after it.
 -- Assumes nothing.
-use mathlib.Core.Path.{◌≡◌, refl, sym, ap, ◌∙◌, subst}
-use mathlib.Core.Bool.{Bool, true, false, cond}
-use mathlib.Core.List.{List, [], ◌∷◌}
-use Prim.Native.Nat.{ℕ, suc, ◌+◌, ◌-◌, ◌≤◌, ◌<◌}
-use native.Mathlib.Numerals.{add-one}
-use native.Mathlib.Nat.{add-zero, add-suc, suc-add, not-suc-le-zero}
-use native.Mathlib.Omega.{arith}
-use lib.Dec.{eqb}
-use lib.ListN.{length, get_or, take, drop, drop_of_length-le}
-use lib.Seq.{drop-cons, get_or-drop}
-use borrow.Author.Tests.{ne_eqb}
+use Rattle.std.proofs.Common.{◌≡◌, refl, sym, ap, ◌∙◌, subst, Bool, true, false, true≢false, cond, ◌&&◌, Option, Some, None, MatchOption}
+use Rattle.std.proofs.Common.{unwrap_or, List, [], ◌∷◌, ℕ, zero, suc, ◌+◌, ◌-◌, ◌≤◌, ◌<◌, eqb, ltb, length, get_or, take, drop, add-one}
+use Rattle.std.proofs.Common.{length-take, length-drop, arith, not-suc-le-zero, take-take, eq-eqb, ne_eqb, eqb-true, ltb-true, ltb-false}
+use Rattle.std.specs.Cmp.Lexicographic.{pointwise}
+use borrow.Author.Tests.{eqb-false}
+use Rattle.std.specs.Borrow.{Bor}
+use Rattle.std.proofs.lemmas.Option.{none-some, same_Some}
+use Rattle.std.specs.List.{position_or_len}
+use Rattle.std.proofs.lemmas.List.Recursion.{is_position_or_len}
 use Rattle.lines.specs.Digits.{before}
 use Rattle.intelhex.specs.Lines.{lf, cr, feeds, onto, lines_of}
-use Rattle.intelhex.specs.Meaning.{stop_of}
+use Rattle.intelhex.specs.Meaning.{stop_of, Cuts}
 
 -- ---- up to the line feed
 
-pub feed_on : (i : ℕ) (s : List ℕ) → i < length s → (get_or s i 0 ≡ 10 → ⊥) → i + before lf (drop i s) ≡ i + 1 + before lf (drop (i + 1) s)
-unfolding before
-feed_on i s l h = rw (drop-cons s i 0 l, ne_eqb lf (get_or s i 0) (λ e. h (sym e)), add-one, add-suc, suc-add)
+before_place : (b : Bool) (n : ℕ) → cond b 0 (suc n) ≡ cond b 0 (1 + n)
+before_place true n = refl
+before_place false n = omega arith
 
-pub feed_here : (i : ℕ) (s : List ℕ) → i < length s → get_or s i 0 ≡ 10 → i ≡ i + before lf (drop i s)
+-- what `position` finds
+pub feed_place : (s : List ℕ) → before lf s ≡ position_or_len (eqb lf) s
 unfolding before
-feed_here i s l h = rw (drop-cons s i 0 l, h, add-zero)
-
-pub feed_none : (i : ℕ) (s : List ℕ) → length s ≤ i → i ≡ i + before lf (drop i s)
-unfolding before
-feed_none i s l = rw (drop_of_length-le s l, add-zero)
+feed_place s = is_position_or_len (before lf) (eqb lf) refl (λ c cs. before_place (eqb lf c) (before lf cs)) s
 
 -- ---- a line that ends with a line feed
 
@@ -151,23 +146,68 @@ unfolding before
 before_within [] = omega arith
 before_within (c ∷ cs) = nearer (eqb lf c) (before lf cs) (length cs) (before_within cs)
 
--- ---- where a line ends
+-- ---- the first line, by the code
 
-pub stop_here : (s : List ℕ) (at e : ℕ) → at ≡ e → e ≡ at + stop_of (drop at s) (e - at)
+-- no line feed: `position` finds none
+pub cuts_last : (text : List ℕ) → 0 < length text → length text ≤ position_or_len (eqb lf) text → Cuts text text []
+unfolding lines_of
+cuts_last text h l =
+    let all : before lf text ≡ length text = omega (arith, feed_place text, before_within text) in
+    record { lines = last text h all; on = h }
+
+last_char : (m : ℕ) (s : List ℕ) → m < length s → drop m (take (suc m) s) ≡ get_or s m 0 ∷ []
+last_char m [] h = absurd (omega arith)
+last_char zero (c ∷ cs) h = refl
+last_char (suc m) (c ∷ cs) h = last_char m cs (omega arith)
+
+pub alike : (b : Bool) → (b && true) ≡ b
+alike true = refl
+alike false = refl
+
+-- what `strip_suffix` tests: whether the last of n characters is a CR
+ends_cr : (m : ℕ) (s : List ℕ) → m < length s → pointwise eqb (drop (length (take (suc m) s) - 1) (take (suc m) s)) (cr ∷ []) ≡ eqb (get_or s m 0) cr
+ends_cr m s h =
+    let long : length (take (suc m) s) - 1 ≡ m = omega (arith, length-take (suc m) s) in
+    rw (long, last_char m s h) (alike (eqb (get_or s m 0) cr))
+
+pub stop_plain : (n : ℕ) (s : List ℕ) → n ≤ length s → pointwise eqb (drop (length (take n s) - 1) (take n s)) (cr ∷ []) ≡ false → stop_of s n ≡ n
 unfolding stop_of
-stop_here s at e h =
-    let none : e - at ≡ 0 = omega arith in
-    rw (none, add-zero, h)
+stop_plain zero s h e = refl
+stop_plain (suc m) s h e =
+    let other : cr ≡ get_or s m 0 → ⊥ = λ q. eqb-false (get_or s m 0) cr (sym (ends_cr m s (omega arith)) ∙ e) (sym q) in
+    rw (ne_eqb cr (get_or s m 0) other)
 
-stops : (s : List ℕ) (at e : ℕ) → at < e → stop_of (drop at s) (e - at) ≡ cond (eqb cr (get_or s (e - 1) 0)) (e - 1 - at) (e - at)
+pub stop_cr : (n : ℕ) (s : List ℕ) → n ≤ length s → pointwise eqb (drop (length (take n s) - 1) (take n s)) (cr ∷ []) ≡ true → stop_of s n ≡ n - 1
 unfolding stop_of
-stops s at e h =
-    let some : e - at ≡ suc (e - 1 - at) = omega arith in
-    let there : at + (e - 1 - at) ≡ e - 1 = omega arith in
-    rw (some, get_or-drop at s (e - 1 - at) 0, there)
+stop_cr zero s h e = absurd (true≢false (sym e))
+stop_cr (suc m) s h e =
+    let same : cr ≡ get_or s m 0 = sym (eqb-true (get_or s m 0) cr (sym (ends_cr m s (omega arith)) ∙ e)) in
+    rw (eq-eqb cr (get_or s m 0) same) (omega arith)
 
-pub stop_cr : (s : List ℕ) (at e : ℕ) → at < e → get_or s (e - 1) 0 ≡ 13 → e - 1 ≡ at + stop_of (drop at s) (e - at)
-stop_cr s at e h q = rw (stops s at e h, q) (omega arith)
+-- the line without a CR at its end, or as it is
+pub stripped : (text : List ℕ) (n : ℕ) (r : Option (Bor (List ℕ))) (d : Bor (List ℕ)) → n ≤ length text → d.now ≡ take n text
+    → MatchOption r (pointwise eqb (drop (length (take n text) - 1) (take n text)) (cr ∷ []) ≡ false)
+    (λ x. (pointwise eqb (drop (length (take n text) - 1) (take n text)) (cr ∷ []) ≡ true) × (x.now ≡ take (length (take n text) - 1) (take n text))
+    × (length x.now + 1 ≡ length (take n text)))
+    → (unwrap_or r d).now ≡ take (stop_of text n) text
+stripped text n None d h e m = rw (stop_plain n text h m) e
+stripped text n (Some x) d h e m =
+    let long : length (take n text) - 1 ≡ n - 1 = omega (arith, length-take n text) in
+    rw (stop_cr n text h m.0) (m.1 ∙ rw long (take-take (n - 1) n text (omega arith)))
 
-pub stop_plain : (s : List ℕ) (at e : ℕ) → at < e → (get_or s (e - 1) 0 ≡ 13 → ⊥) → e ≡ at + stop_of (drop at s) (e - at)
-stop_plain s at e h q = rw (stops s at e h, ne_eqb cr (get_or s (e - 1) 0) (λ x. q (sym x))) (omega arith)
+-- what `position` answered
+pub found_none : (b : Bool) (p n : ℕ) → ltb p n ≡ b → None ≡ cond b (Some p) None → n ≤ p
+found_none true p n e h = absurd (none-some p h)
+found_none false p n e h = ltb-false p n e
+
+pub found_at : (b : Bool) (p n i : ℕ) → ltb p n ≡ b → Some i ≡ cond b (Some p) None → (i ≡ p) × (p < n)
+found_at true p n i e h = (same_Some i p h, ltb-true p n e)
+found_at false p n i e h = absurd (none-some i (sym h))
+
+-- a line that ends with a line feed
+module _ (text : List ℕ) (n : ℕ) (e : n ≡ position_or_len (eqb lf) text) (h : n < length text) where
+  pub cuts_fed : (line : List ℕ) → line ≡ take (stop_of text n) text → Cuts text line (drop (n + 1) text)
+  cuts_fed line q =
+      let far : before lf text ≡ n = feed_place text ∙ sym e in
+      let first : lines_of text ≡ take (stop_of text n) text ∷ lines_of (drop (suc n) text) = subst (λ (k : ℕ). Cut text k) far (cut text (omega (arith, far))) in
+      record { lines = rw (add-one, q) first; on = omega (arith, length-drop (n + 1) text) }

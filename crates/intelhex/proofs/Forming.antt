@@ -1,51 +1,38 @@
 -- Laws of digits, pairs and records, by the tests that the code makes.
 -- Assumes nothing.
-use mathlib.Core.Path.{◌≡◌, refl, ap, ◌∙◌}
-use mathlib.Core.Bool.{true, false}
-use mathlib.Core.List.{List, [], ◌∷◌}
-use Prim.Native.Nat.{ℕ, zero, suc, ◌+◌, ◌-◌, ◌*◌, ◌/◌, ◌%◌, ◌≤◌, ◌<◌}
-use native.Mathlib.Numerals.{add-one, add-two}
-use native.Mathlib.Nat.{mul-suc, add-zero, suc-add, sub-zero}
-use native.Mathlib.Omega.{arith}
-use lib.ListN.{length, get_or, take, drop, set, length-drop, drop_of_length-le}
-use lib.Seq.{drop-cons, set_out}
-use borrow.Author.Tests.{lt-ltb, le-ltb}
+use Rattle.std.proofs.Common.{◌≡◌, refl, ap, ◌∙◌, ◌&&◌, List, [], ◌∷◌, ◌++◌, ℕ, zero, suc, ◌+◌, ◌*◌, ◌/◌, ◌%◌, ◌≤◌, ◌<◌, ltb}
+use Rattle.std.proofs.Common.{length, get_or, take, drop, set, add-one, arith, mul-suc, suc-add}
+use Rattle.std.proofs.Math.Numerals.{add-two}
+use Rattle.std.proofs.Math.Seq.{set_out}
+use Rattle.std.specs.List.{list_all}
+use Rattle.std.proofs.lemmas.List.Recursion.{same_from_clauses}
 use Rattle.lines.specs.Digits.{laid}
+use Rattle.lines.proofs.Numerals.{unless}
 use Rattle.intelhex.specs.Records.{value, all_digits, pair, pairs, total}
-use Rattle.intelhex.specs.Meaning.{pairs_at}
 
 -- ---- digits
 
-module _ (i : ℕ) (s : List ℕ) (l : i < length s) where
-  pub digits_on : value (get_or s i 0) < 16 → all_digits (drop i s) ≡ all_digits (drop (i + 1) s)
-  unfolding all_digits
-  digits_on d = rw (drop-cons s i 0 l, lt-ltb _ _ d, add-one)
-
-  pub digits_off : 16 ≤ value (get_or s i 0) → all_digits (drop i s) ≡ false
-  unfolding all_digits
-  digits_off d = rw (drop-cons s i 0 l, le-ltb _ _ d)
-
-pub digits_end : (i : ℕ) (s : List ℕ) → length s ≤ i → all_digits (drop i s) ≡ true
+-- what `all` says of the characters
+pub digits_all : (s : List ℕ) → list_all (λ c. ltb (value c) 16) s ≡ all_digits s
 unfolding all_digits
-digits_end i s l = rw (drop_of_length-le s l)
+digits_all s =
+    same_from_clauses (list_all (λ c. ltb (value c) 16)) all_digits (λ c b. ltb (value c) 16 && b) refl (λ c cs. refl) (λ c cs. unless (ltb (value c) 16) (all_digits cs)) s
 
 -- ---- pairs
 
-pub pairs_cons : (s : List ℕ) (at : ℕ) → at + 1 < length s → pairs (drop at s) ≡ pair (get_or s at 0) (get_or s (at + 1) 0) ∷ pairs (drop (at + 2) s)
+-- pair by pair
+pub pairs_on : (two more : List ℕ) {rest : List ℕ} → length two ≡ 2 → rest ≡ two ++ more → pairs rest ≡ pair (get_or two 0 0) (get_or two 1 0) ∷ pairs more
 unfolding pairs
-pairs_cons s at h =
-    let one : at < length s = omega arith in
-    let two : suc at < length s = omega arith in
-    rw (drop-cons s at 0 one, drop-cons s (suc at) 0 two, add-one, add-two at)
+pairs_on [] more l e = absurd (omega arith)
+pairs_on (a ∷ []) more l e = absurd (omega arith)
+pairs_on (a ∷ b ∷ []) more l e = rw e
+pairs_on (a ∷ b ∷ c ∷ t) more l e = absurd (omega arith)
 
-short : (t : List ℕ) → length t ≤ 1 → pairs t ≡ []
+pub pairs_end : (t : List ℕ) → length t < 2 → pairs t ≡ []
 unfolding pairs
-short [] h = refl
-short (a ∷ []) h = refl
-short (a ∷ b ∷ t) h = absurd (omega arith)
-
-pub pairs_none : (s : List ℕ) (at : ℕ) → length s ≤ at + 1 → pairs (drop at s) ≡ []
-pairs_none s at h = short (drop at s) (omega (arith, length-drop at s))
+pairs_end [] h = refl
+pairs_end (a ∷ []) h = refl
+pairs_end (a ∷ b ∷ t) h = absurd (omega arith)
 
 pub length_pairs : (t : List ℕ) → length (pairs t) ≡ length t / 2
 unfolding pairs
@@ -76,50 +63,26 @@ pairs_at_lem (suc k) (a ∷ b ∷ t) h = rw (mul-suc, add-two (2 * k), suc-add, 
 
 -- ---- the sum
 
-pub sum_on : (s : List ℕ) (i t b : ℕ) → i < length s / 2 → b ≡ pair (get_or s (2 * i) 0) (get_or s (2 * i + 1) 0)
-    → (t + total (pairs (drop (2 * i) s))) % 256 ≡ ((t + b) % 256 + total (pairs (drop (2 * (i + 1)) s))) % 256
+pub sum_on : (two more : List ℕ) {rest : List ℕ} (t b : ℕ) → length two ≡ 2 → rest ≡ two ++ more → b ≡ pair (get_or two 0 0) (get_or two 1 0)
+    → (t + total (pairs rest)) % 256 ≡ ((t + b) % 256 + total (pairs more)) % 256
 unfolding total
-sum_on s i t b l e =
-    let on : 2 * (i + 1) ≡ 2 * i + 2 = omega arith in
-    rw (pairs_cons s (2 * i) (omega arith), on, ← e) (omega arith)
+sum_on two more t b l e q = rw (pairs_on two more l e, ← q) (omega arith)
 
-pub sum_end : (s : List ℕ) (i t : ℕ) → length s / 2 ≤ i → t < 256 → (t + total (pairs (drop (2 * i) s))) % 256 ≡ t
+pub sum_end : (rest : List ℕ) (t : ℕ) → length rest < 2 → t < 256 → (t + total (pairs rest)) % 256 ≡ t
 unfolding total
-sum_end s i t l h = rw (pairs_none s (2 * i) (omega arith)) (omega arith)
+sum_end rest t l h = rw (pairs_end rest l) (omega arith)
 
 -- ---- bytes that are laid
 
-part_cons : (text : List ℕ) (from k : ℕ) → from + 1 < length text
-    → pairs_at text from (suc k) ≡ pair (get_or text from 0) (get_or text (from + 1) 0) ∷ pairs_at text (from + 2) k
-unfolding pairs_at pairs
-part_cons text from k h =
-    let one : from < length text = omega arith in
-    let two : suc from < length text = omega arith in
-    rw (mul-suc, add-two (2 * k), drop-cons text from 0 one, drop-cons text (suc from) 0 two, add-one, add-two from)
-
-module _ (xs : List ℕ) (at : ℕ) (text : List ℕ) (from count i : ℕ) where
-  pub bytes_start : laid xs at (pairs_at text from count) ≡ laid xs (at + 0) (pairs_at text (from + 2 * 0) (count - 0))
-  bytes_start = rw (add-zero at, add-zero from, sub-zero count)
-
-  pub bytes_on : (b : ℕ) → b ≡ pair (get_or text (from + 2 * i) 0) (get_or text (from + 2 * i + 1) 0) → i < count → from + 2 * count ≤ length text
-      → laid xs (at + i) (pairs_at text (from + 2 * i) (count - i)) ≡ laid (set xs (at + i) b) (at + (i + 1))
-      (pairs_at text (from + 2 * (i + 1)) (count - (i + 1)))
+module _ (xs : List ℕ) (at : ℕ) (two more : List ℕ) {rest : List ℕ} (l : length two ≡ 2) (e : rest ≡ two ++ more) where
+  pub bytes_on : (b : ℕ) → b ≡ pair (get_or two 0 0) (get_or two 1 0) → laid xs at (pairs rest) ≡ laid (set xs at b) (at + 1) (pairs more)
   unfolding laid
-  bytes_on b e l h =
-      let left : count - i ≡ suc (count - (i + 1)) = omega arith in
-      let on : from + 2 * (i + 1) ≡ from + 2 * i + 2 = omega arith in
-      let next : at + (i + 1) ≡ suc (at + i) = omega arith in
-      rw (left, part_cons text (from + 2 * i) (count - (i + 1)) (omega arith), on, next, e)
+  bytes_on b q = rw (pairs_on two more l e, q, add-one)
 
   -- beyond the image nothing is laid
-  pub bytes_past : length xs ≤ at + i → i < count → from + 2 * count ≤ length text
-      → laid xs (at + i) (pairs_at text (from + 2 * i) (count - i)) ≡ laid xs (at + (i + 1)) (pairs_at text (from + 2 * (i + 1)) (count - (i + 1)))
-  bytes_past o l h =
-      bytes_on (pair (get_or text (from + 2 * i) 0) (get_or text (from + 2 * i + 1) 0)) refl l h
-      ∙ ap (λ (ys : List ℕ). laid ys (at + (i + 1)) (pairs_at text (from + 2 * (i + 1)) (count - (i + 1)))) (set_out xs (at + i) _ o)
+  pub bytes_past : length xs ≤ at → laid xs at (pairs rest) ≡ laid xs (at + 1) (pairs more)
+  bytes_past o = bytes_on (pair (get_or two 0 0) (get_or two 1 0)) refl ∙ ap (λ (ys : List ℕ). laid ys (at + 1) (pairs more)) (set_out xs at _ o)
 
-  pub bytes_end : count ≤ i → laid xs (at + i) (pairs_at text (from + 2 * i) (count - i)) ≡ xs
-  unfolding laid pairs_at pairs
-  bytes_end l =
-      let none : count - i ≡ 0 = omega arith in
-      rw none
+pub bytes_end : (xs : List ℕ) (at : ℕ) (rest : List ℕ) → length rest < 2 → laid xs at (pairs rest) ≡ xs
+unfolding laid
+bytes_end xs at rest h = rw (pairs_end rest h)

@@ -1,21 +1,18 @@
 -- Laws of the verdict and of the image, record by record.
 -- Assumes nothing.
-use mathlib.Core.Path.{◌≡◌, refl, sym, ap, ◌∙◌}
-use mathlib.Core.Bool.{Bool, true, false}
-use mathlib.Core.List.{List, [], ◌∷◌}
-use mathlib.Core.Logic.{⊎_elim}
-use Prim.Native.Nat.{ℕ, ◌+◌, ◌-◌, ◌*◌, ◌≤◌, ◌<◌}
-use native.Mathlib.Numerals.{add-one}
-use native.Mathlib.Nat.{eq-or-lt_of_le}
-use native.Mathlib.Omega.{arith}
-use lib.ListN.{length, take, drop, length-replicate, length-take, length-drop}
-use borrow.Author.Tests.{eq-eqb, ne_eqb, le-leb, lt-leb}
+use Rattle.std.proofs.Common.{◌≡◌, refl, sym, ap, ◌∙◌, Bool, true, false, true≢false, List, [], ◌∷◌, ⊎_elim, ℕ, ◌+◌, ◌-◌, ◌/◌, ◌≤◌, ◌<◌}
+use Rattle.std.proofs.Common.{add-one, eq-or-lt_of_le, arith, length, take, drop, eq-eqb, ne_eqb, le-leb, Result, Ok, Err, is_ok}
+use Rattle.std.proofs.Math.ListN.{length-replicate}
+use borrow.Author.Tests.{lt-leb}
 use Rattle.lines.specs.Digits.{laid}
 use Rattle.intelhex.specs.Lines.{lines_of}
-use Rattle.intelhex.specs.Records.{Record, holds, end, bad, records}
-use Rattle.intelhex.specs.Meaning.{pairs_at, Marks}
-use Rattle.intelhex.specs.Dump.{told, idle, trial, named, judged, filled, groups, zeros, read_answer, image_of, read_image}
-use Rattle.intelhex.specs.declared.dump.Read.{Read}
+use Rattle.intelhex.specs.Records.{Record, holds, end, bad, pairs, records}
+use Rattle.intelhex.specs.Meaning.{Marks, clash_of, read_of}
+use Rattle.intelhex.specs.declared.flags.Clash.{Clash}
+use Rattle.intelhex.specs.declared.flags.Clash.TheVariants.{Beyond, Twice}
+use Rattle.intelhex.specs.declared.dump.ReadError.{ReadError}
+use Rattle.intelhex.specs.declared.dump.ReadError.TheVariants as fault
+use Rattle.intelhex.specs.Dump.{Read, told, idle, trial, named, judged, filled, groups, zeros, read_answer, image_of, read_image}
 use Rattle.intelhex.proofs.Cutting.{cut, last, before_within}
 use Rattle.intelhex.proofs.Forming.{length_pairs}
 use Rattle.intelhex.proofs.Saying.{empty, as_records}
@@ -65,35 +62,28 @@ module _ (flags : List ℕ) (n : ℕ) (s : List ℕ) where
   pub judged_more : (t : List ℕ) → 0 < length t → records s ≡ end ∷ records t → told 20 (n + 1) ≡ judged flags n (records s)
   judged_more t h e = ⊎_elim (λ q. after_end _ _ t e (last t h q)) (λ l. after_end _ _ t e (cut t l)) (eq-or-lt_of_le (before_within t))
 
--- the end record, with nothing after it, and with more
-module _ (flags : List ℕ) (n : ℕ) (s text : List ℕ) (next : ℕ) (e : records s ≡ end ∷ records (drop next text)) where
-  pub end_last : length text ≤ next → told 0 0 ≡ judged flags n (records s)
-  end_last h = judged_end flags n s (drop next text) (omega (arith, length-drop next text)) e
-
-  pub end_early : next < length text → told 20 (n + 1) ≡ judged flags n (records s)
-  end_early h = judged_more flags n s (drop next text) (omega (arith, length-drop next text)) e
-
-no_more : (flags : List ℕ) (n : ℕ) (s : List ℕ) → length s ≡ 0 → told 22 n ≡ judged flags n (records s)
+pub judged_none : (flags : List ℕ) (n : ℕ) (s : List ℕ) → length s ≡ 0 → told 22 n ≡ judged flags n (records s)
 unfolding judged
-no_more flags n [] h = rw empty
-no_more flags n (c ∷ s) h = absurd (omega arith)
+judged_none flags n [] h = rw empty
+judged_none flags n (c ∷ s) h = absurd (omega arith)
 
-pub judged_none : (flags : List ℕ) (n : ℕ) (text : List ℕ) (at : ℕ) → length text ≤ at → told 22 n ≡ judged flags n (records (drop at text))
-judged_none flags n text at h = no_more flags n (drop at text) (omega (arith, length-drop at text))
+module _ (flags is : List ℕ) (n : ℕ) (s digits : List ℕ) (at count r : ℕ) (rs : List Record) (h : count ≡ length digits / 2)
+    (e : records s ≡ holds at (pairs digits) ∷ rs) (cell : ℕ) (q : cell ≡ at) (m : Marks flags cell count r is) where
+  many : length (pairs digits) ≡ count
+  many = length_pairs digits ∙ sym h
 
-length_part : (text : List ℕ) (from count : ℕ) → from + 2 * count ≤ length text → length (pairs_at text from count) ≡ count
-unfolding pairs_at
-length_part text from count h = rw (length_pairs, length-take, length-drop) (omega arith)
+  tried : r ≡ trial flags at count
+  tried = rw (← q) m.says
 
-module _ (flags is : List ℕ) (n : ℕ) (s text : List ℕ) (from at count r : ℕ) (rs : List Record) (h : from + 2 * count ≤ length text)
-    (e : records s ≡ holds at (pairs_at text from count) ∷ rs) (m : Marks flags at count r is) where
   pub judged_off : (r ≡ 0 → ⊥) → told r n ≡ judged flags n (records s)
   unfolding judged
-  judged_off z = rw (e, length_part text from count h, ← m.says, ne_eqb r 0 z)
+  judged_off z = rw (e, many, ← tried, ne_eqb r 0 z)
 
   pub judged_on : r ≡ 0 → judged flags n (records s) ≡ judged is (n + 1) rs
   unfolding judged
-  judged_on z = rw (e, length_part text from count h, ← m.says, m.leaves, eq-eqb r 0 z, add-one)
+  judged_on z =
+      let named_there : is ≡ named flags at count = rw (← q) (m.leaves ∙ rw (eq-eqb r 0 z)) in
+      rw (e, many, ← tried, eq-eqb r 0 z, named_there, add-one)
 
 -- ---- the image
 
@@ -110,13 +100,10 @@ module _ (image : List ℕ) (s : List ℕ) (rs : List Record) where
   unfolding filled
   filled_bad e = rw e
 
-none_filled : (image s : List ℕ) → length s ≡ 0 → filled image (records s) ≡ image
+pub filled_none : (image s : List ℕ) → length s ≡ 0 → filled image (records s) ≡ image
 unfolding filled
-none_filled image [] h = rw empty
-none_filled image (c ∷ s) h = absurd (omega arith)
-
-pub filled_none : (image text : List ℕ) (at : ℕ) → length text ≤ at → filled image (records (drop at text)) ≡ image
-filled_none image text at h = none_filled image (drop at text) (omega (arith, length-drop at text))
+filled_none image [] h = rw empty
+filled_none image (c ∷ s) h = absurd (omega arith)
 
 -- ---- the whole call
 
@@ -142,3 +129,19 @@ module _ (image text : List ℕ) where
     pub read_done : (out : List ℕ) → r.answer ≡ 0 → out ≡ filled is (records text) → (r ≡ read_answer (length image) text) × (out ≡ read_image image text)
     unfolding read_image image_of
     read_done out z f = (sym same, rw (g, same, eq-eqb r.answer 0 z, again) f)
+
+-- what is said of a text that was judged
+pub refused : {A : Type 0} (r : Result A ReadError) → is_ok r ≡ false → (read_of r).answer ≡ 0 → ⊥
+refused (Ok done) e z = true≢false e
+refused (Err fault.WrongLength) e z = omega (arith, z)
+refused (Err (fault.BadRecord n)) e z = omega (arith, z)
+refused (Err (fault.NamedTwice n)) e z = omega (arith, z)
+refused (Err (fault.NoEnd n)) e z = omega (arith, z)
+
+pub sound : {A : Type 0} (r : Result A ReadError) → is_ok r ≡ true → (read_of r).answer ≡ 0
+sound (Ok done) e = refl
+sound (Err f) e = absurd (true≢false (sym e))
+
+pub clashes : (e : Clash) → clash_of e ≡ 0 → ⊥
+clashes Beyond z = omega (arith, z)
+clashes Twice z = omega (arith, z)

@@ -1,52 +1,24 @@
--- Laws of flags and bytes that are laid.
+-- Laws of flags.
 -- Assumes nothing.
-use mathlib.Core.Path.{◌≡◌, sym, ap, ◌∙◌}
-use mathlib.Core.Bool.{true, false}
-use mathlib.Core.List.{List}
-use Prim.Native.Nat.{ℕ, suc, ◌+◌, ◌-◌, ◌≤◌, ◌<◌}
-use native.Mathlib.Numerals.{add-one}
-use native.Mathlib.Omega.{arith}
-use lib.ListN.{length, get_or, take, drop, set, replicate, drop_of_length-le, replicate-append-replicate}
-use lib.Seq.{drop-cons, take-suc-set, take_all}
-use borrow.Author.Tests.{eq-eqb, ne_eqb}
-use Rattle.lines.specs.Digits.{laid}
-use Rattle.intelhex.specs.Dump.{idle}
+use Rattle.std.proofs.Common.{◌≡◌, refl, ◌&&◌, List, ℕ, ◌+◌, ◌-◌, ◌≤◌, eqb, length, take, drop, replicate, length-take, length-drop, arith}
+use Rattle.std.proofs.lemmas.List.{length-replicate}
+use borrow.Rule.Slice.PartMut.{put_mid}
+use Rattle.std.specs.List.{list_all}
+use Rattle.std.proofs.lemmas.List.Recursion.{same_from_clauses}
+use Rattle.lines.proofs.Numerals.{unless}
+use Rattle.lines.proofs.Overlay.{laid_mid}
+use Rattle.intelhex.specs.Dump.{idle, named}
 
--- ---- an image made all zero
-
-pub cleared : (xs : List ℕ) (i : ℕ) → i < length xs → take i xs ≡ replicate i 0 → take (i + 1) (set xs i 0) ≡ replicate (i + 1) 0
-cleared xs i l e = rw (add-one, take-suc-set xs i 0 l, e) (replicate-append-replicate i 1 0 ∙ ap (λ (n : ℕ). replicate n 0) (add-one i))
-
-pub all_clear : (xs : List ℕ) (i n : ℕ) → length xs ≤ i → i ≤ n → length xs ≡ n → take i xs ≡ replicate i 0 → xs ≡ replicate n 0
-all_clear xs i n l h q e =
-    let same : i ≡ n = omega arith in
-    sym (take_all i xs l) ∙ e ∙ ap (λ (k : ℕ). replicate k 0) same
-
--- ---- flags
-
-module _ (i : ℕ) (s : List ℕ) (l : i < length s) where
-  pub idle_on : get_or s i 0 ≡ 0 → idle (drop i s) ≡ idle (drop (i + 1) s)
-  unfolding idle
-  idle_on d = rw (drop-cons s i 0 l, eq-eqb _ _ d, add-one)
-
-  pub idle_off : (get_or s i 0 ≡ 0 → ⊥) → idle (drop i s) ≡ false
-  unfolding idle
-  idle_off d = rw (drop-cons s i 0 l, ne_eqb _ _ d)
-
-pub idle_end : (i : ℕ) (s : List ℕ) → length s ≤ i → idle (drop i s) ≡ true
+-- what `all` says of the flags
+pub idle_all : (fs : List ℕ) → list_all (λ f. eqb f 0) fs ≡ idle fs
 unfolding idle
-idle_end i s l = rw (drop_of_length-le s l)
+idle_all fs = same_from_clauses (list_all (λ f. eqb f 0)) idle (λ f b. eqb f 0 && b) refl (λ f gs. refl) (λ f gs. unless (eqb f 0) (idle gs)) fs
 
-pub ones_on : (xs : List ℕ) (at count i : ℕ) → i < count
-    → laid xs (at + i) (replicate (count - i) 1) ≡ laid (set xs (at + i) 1) (at + (i + 1)) (replicate (count - (i + 1)) 1)
-unfolding laid
-ones_on xs at count i l =
-    let left : count - i ≡ suc (count - (i + 1)) = omega arith in
-    let next : at + (i + 1) ≡ suc (at + i) = omega arith in
-    rw (left, next)
-
-pub ones_end : (xs : List ℕ) (at count i : ℕ) → count ≤ i → laid xs (at + i) (replicate (count - i) 1) ≡ xs
-unfolding laid
-ones_end xs at count i l =
-    let none : count - i ≡ 0 = omega arith in
-    rw none
+-- those of a record set
+pub named_mid : (fs : List ℕ) (at k : ℕ) (ones : List ℕ) → at + k ≤ length fs → ones ≡ replicate (length (take (at + k - at) (drop at fs))) 1
+    → put_mid at (at + k - at) fs ones ≡ named fs at k
+named_mid fs at k ones h e =
+    let many : length (take (at + k - at) (drop at fs)) ≡ k = omega (arith, length-take (at + k - at) (drop at fs), length-drop at fs) in
+    let long : length (replicate {A = ℕ} k 1) ≡ k = length-replicate k 1 in
+    let place : at + length (replicate {A = ℕ} k 1) - at ≡ at + k - at = omega (arith, long) in
+    rw (e, many, ← place) (laid_mid fs at (replicate k 1) (omega (arith, long)))

@@ -1,13 +1,8 @@
 -- A text that is read gives every byte that its records name, and 0 elsewhere.
 -- Assumes nothing.
-use mathlib.Core.Path.{◌≡◌, refl, sym, ◌∙◌}
-use mathlib.Core.List.{List, [], ◌∷◌}
-use mathlib.Core.Logic.{◌⊎◌, inl, inr, ⊎_elim}
-use Prim.Native.Nat.{ℕ, zero, suc, ◌+◌, ◌≤◌, ◌<◌}
-use native.Mathlib.Nat.{add-zero, add-suc, suc-add}
-use native.Mathlib.Omega.{arith}
-use lib.ListN.{length, get_or, set, replicate, length-set, length-replicate}
-use lib.Seq.{get_or-set_same}
+use Rattle.std.proofs.Common.{◌≡◌, refl, sym, ◌∙◌, List, [], ◌∷◌, ◌⊎◌, inl, inr, ⊎_elim, ℕ, zero, suc, ◌+◌, ◌≤◌, ◌<◌, add-zero, add-suc}
+use Rattle.std.proofs.Common.{suc-add, arith, length, get_or, set, replicate, length-set, get_or-set_same}
+use Rattle.std.proofs.Math.ListN.{length-replicate}
 use Rattle.lines.specs.Digits.{laid}
 use Rattle.lines.proofs.Widths.{either}
 use Rattle.intelhex.specs.Records.{Record, holds, end, bad}

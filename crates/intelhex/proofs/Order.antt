@@ -1,22 +1,18 @@
 -- The order of data records does not matter: any two neighbours of a sound text may change places.
 -- Assumes nothing.
-use mathlib.Core.Path.{◌≡◌, refl, sym, ap, ◌∙◌}
-use mathlib.Core.Bool.{Bool, true, false, cond}
-use mathlib.Core.List.{List, [], ◌∷◌}
-use mathlib.Core.Logic.{◌⊎◌, inl, inr, ⊎_elim}
-use Prim.Native.Nat.{ℕ, zero, suc, ◌+◌, ◌-◌, ◌≤◌, ◌<◌}
-use native.Mathlib.Omega.{arith}
-use lib.Dec.{eqb, leb}
-use lib.ListN.{length, get_or, set, take, drop, replicate, length-set, length-drop, length-replicate}
-use lib.Seq.{set_comm, get_or-set_same, get_or-set_other, get_or-take, get_or-drop, length-take-le}
-use borrow.Author.Tests.{eq-eqb, ne_eqb, le-leb, eqb-true, leb-true}
+use Rattle.std.proofs.Common.{◌≡◌, refl, sym, ap, ◌∙◌, Bool, true, false, cond, List, [], ◌∷◌, ◌⊎◌, inl, inr, ⊎_elim, ℕ, zero, suc, ◌+◌}
+use Rattle.std.proofs.Common.{◌-◌, ◌≤◌, ◌<◌, arith, eqb, leb, length, get_or, set, take, drop, replicate, length-set, length-drop}
+use Rattle.std.proofs.Common.{get_or-set_same, get_or-set_other, get_or-take, get_or-drop, length-take-le, eq-eqb, ne_eqb, le-leb, eqb-true}
+use Rattle.std.proofs.Common.{leb-true}
+use Rattle.std.proofs.Math.ListN.{length-replicate}
+use Rattle.std.proofs.Math.Seq.{set_comm}
 use Rattle.lines.specs.Digits.{laid}
 use Rattle.lines.proofs.Overlay.{laid_set}
 use Rattle.lines.proofs.Widths.{either}
 use Rattle.intelhex.specs.Records.{Record, holds, end, bad}
-use Rattle.intelhex.specs.Dump.{told, idle, trial, judged, filled}
-use Rattle.intelhex.specs.declared.dump.Read.{Read}
+use Rattle.intelhex.specs.Dump.{Read, told, idle, trial, judged, filled}
 use Rattle.intelhex.proofs.Back.{length_laid}
+use Rattle.intelhex.proofs.Saying.{both}
 
 -- ---- bytes laid at places apart
 
@@ -56,15 +52,11 @@ flagged xs at (suc k) j h l m =
 
 -- ---- a row of flags that are 0
 
-halves : (a b : Bool) → cond a b false ≡ true → (a ≡ true) × (b ≡ true)
-halves true b e = (refl, e)
-halves false b e = let wrong : ◌≡◌ {A = ℕ} 0 1 = cc in absurd (omega arith)
-
 idle_at : (fs : List ℕ) → idle fs ≡ true → (j : ℕ) → j < length fs → get_or fs j 0 ≡ 0
 unfolding idle
 idle_at [] e j h = refl
-idle_at (f ∷ fs) e zero h = eqb-true f 0 (halves (eqb f 0) (idle fs) e).0
-idle_at (f ∷ fs) e (suc j) h = idle_at fs (halves (eqb f 0) (idle fs) e).1 j (omega arith)
+idle_at (f ∷ fs) e zero h = eqb-true f 0 (both (eqb f 0) (idle fs) e).0
+idle_at (f ∷ fs) e (suc j) h = idle_at fs (both (eqb f 0) (idle fs) e).1 j (omega arith)
 
 at_idle : (fs : List ℕ) → ((j : ℕ) → j < length fs → get_or fs j 0 ≡ 0) → idle fs ≡ true
 unfolding idle

@@ -1,21 +1,18 @@
 -- What follows from the contracts alone: they determine all that comes out, an image comes back as it was written, and a text that is read gives
 -- every byte that its records name, in whatever order they stand, and 0 elsewhere.
 -- Assumes nothing.
-use mathlib.Core.Path.{◌≡◌, refl, sym, ap, ◌∙◌}
-use mathlib.Core.Bool.{Bool, true, false, cond}
-use mathlib.Core.List.{List}
-use Prim.Native.Nat.{ℕ, ◌≤◌}
-use native.Mathlib.Omega.{arith}
-use lib.Dec.{leb}
-use lib.ListN.{length, take, drop}
-use lib.Seq.{take-append_seam}
-use borrow.Author.Tests.{eq-eqb, leb-true}
+use Rattle.std.proofs.Common.{◌≡◌, refl, sym, ap, ◌∙◌, Bool, true, false, cond, List, ℕ, ◌≤◌, arith, leb, length, take, drop, eq-eqb, leb-true}
+use Rattle.std.proofs.Math.Seq.{take-append_seam}
+use Rattle.std.proofs.Common.{Result, Ok, Err}
 use Rattle.lines.specs.Shown.{Lent, SeenLent}
 use Rattle.lines.proofs.Overlay.{laid_front}
-use Rattle.intelhex.specs.Dump.{told, groups, needs, wrote, read_answer, read_image, text_of, write_answer, write_out}
-use Rattle.intelhex.specs.Meaning.{Reads, Writes, Bytes}
-use Rattle.intelhex.specs.declared.dump.Read.{Read}
-use Rattle.intelhex.specs.declared.dump.Written.{Written}
+use Rattle.intelhex.specs.Dump.{Read, Written, told, groups, needs, wrote, read_answer, read_image, text_of, write_answer, write_out}
+use Rattle.intelhex.specs.Meaning.{Reads, Writes, Bytes, fault_of, read_of, write_of}
+use Rattle.intelhex.specs.declared.dump.ReadError.{ReadError}
+use Rattle.intelhex.specs.declared.dump.ReadError.TheVariants as fault
+use Rattle.intelhex.specs.declared.dump.WriteError.{WriteError}
+use Rattle.intelhex.specs.declared.dump.WriteError.TheVariants as unwritten
+use Rattle.intelhex.proofs.Judging.{refused}
 use Rattle.intelhex.proofs.Back.{told_back, read_back, divides}
 use Rattle.intelhex.proofs.Writing.{length_text}
 
@@ -36,6 +33,55 @@ writes_determined {image} e a b = (
   a.leaves ∙ ap (write_out image.entry.now) e
       ∙ sym b.leaves,
 )
+
+-- and so are the calls' own results: no two say the same
+
+same_fault : (e f : ReadError) → fault_of e ≡ fault_of f → e ≡ f
+same_fault fault.WrongLength fault.WrongLength q = refl
+same_fault fault.WrongLength (fault.BadRecord m) q = absurd (omega (arith, ap (λ (x : Read). x.answer) q))
+same_fault fault.WrongLength (fault.NamedTwice m) q = absurd (omega (arith, ap (λ (x : Read). x.answer) q))
+same_fault fault.WrongLength (fault.NoEnd m) q = absurd (omega (arith, ap (λ (x : Read). x.answer) q))
+same_fault (fault.BadRecord n) fault.WrongLength q = absurd (omega (arith, ap (λ (x : Read). x.answer) q))
+same_fault (fault.BadRecord n) (fault.BadRecord m) q = ap (λ (k : ℕ). fault.BadRecord k) (ap (λ (x : Read). x.line) q)
+same_fault (fault.BadRecord n) (fault.NamedTwice m) q = absurd (omega (arith, ap (λ (x : Read). x.answer) q))
+same_fault (fault.BadRecord n) (fault.NoEnd m) q = absurd (omega (arith, ap (λ (x : Read). x.answer) q))
+same_fault (fault.NamedTwice n) fault.WrongLength q = absurd (omega (arith, ap (λ (x : Read). x.answer) q))
+same_fault (fault.NamedTwice n) (fault.BadRecord m) q = absurd (omega (arith, ap (λ (x : Read). x.answer) q))
+same_fault (fault.NamedTwice n) (fault.NamedTwice m) q = ap (λ (k : ℕ). fault.NamedTwice k) (ap (λ (x : Read). x.line) q)
+same_fault (fault.NamedTwice n) (fault.NoEnd m) q = absurd (omega (arith, ap (λ (x : Read). x.answer) q))
+same_fault (fault.NoEnd n) fault.WrongLength q = absurd (omega (arith, ap (λ (x : Read). x.answer) q))
+same_fault (fault.NoEnd n) (fault.BadRecord m) q = absurd (omega (arith, ap (λ (x : Read). x.answer) q))
+same_fault (fault.NoEnd n) (fault.NamedTwice m) q = absurd (omega (arith, ap (λ (x : Read). x.answer) q))
+same_fault (fault.NoEnd n) (fault.NoEnd m) q = ap (λ (k : ℕ). fault.NoEnd k) (ap (λ (x : Read). x.line) q)
+
+same_read : (r s : Result (Unit {0}) ReadError) → read_of r ≡ read_of s → r ≡ s
+same_read (Ok a) (Ok b) q = refl
+same_read (Ok a) (Err f) q = absurd (refused {A = Unit {0}} (Err f) refl (ap (λ (x : Read). x.answer) (sym q)))
+same_read (Err e) (Ok b) q = absurd (refused {A = Unit {0}} (Err e) refl (ap (λ (x : Read). x.answer) q))
+same_read (Err e) (Err f) q = ap (λ (x : ReadError). Err x) (same_fault e f q)
+
+same_written : (w v : Result ℕ WriteError) → write_of w ≡ write_of v → w ≡ v
+same_written (Ok n) (Ok m) q = ap (λ (k : ℕ). Ok k) (ap (λ (x : Written). x.count) q)
+same_written (Ok n) (Err unwritten.WrongLength) q = absurd (omega (arith, ap (λ (x : Written). x.answer) q))
+same_written (Ok n) (Err unwritten.TooShort) q = absurd (omega (arith, ap (λ (x : Written). x.answer) q))
+same_written (Err unwritten.WrongLength) (Ok m) q = absurd (omega (arith, ap (λ (x : Written). x.answer) q))
+same_written (Err unwritten.TooShort) (Ok m) q = absurd (omega (arith, ap (λ (x : Written). x.answer) q))
+same_written (Err unwritten.WrongLength) (Err unwritten.WrongLength) q = refl
+same_written (Err unwritten.WrongLength) (Err unwritten.TooShort) q = absurd (omega (arith, ap (λ (x : Written). x.answer) q))
+same_written (Err unwritten.TooShort) (Err unwritten.WrongLength) q = absurd (omega (arith, ap (λ (x : Written). x.answer) q))
+same_written (Err unwritten.TooShort) (Err unwritten.TooShort) q = refl
+
+pub read_results_determined : {text : SeenLent} {image other : Lent} (r s : Result (Unit {0}) ReadError) → image.entry.now ≡ other.entry.now
+    → Reads text image (read_of r) → Reads text other (read_of s) → (r ≡ s) × (image.exit.now ≡ other.exit.now)
+read_results_determined r s e a b =
+    let both = reads_determined e a b in
+    (same_read r s both.0, both.1)
+
+pub write_results_determined : {image : SeenLent} {out other : Lent} (w v : Result ℕ WriteError) → out.entry.now ≡ other.entry.now
+    → Writes image out (write_of w) → Writes image other (write_of v) → (w ≡ v) × (out.exit.now ≡ other.exit.now)
+write_results_determined w v e a b =
+    let both = writes_determined e a b in
+    (same_written w v both.0, both.1)
 
 -- ---- "Written and read back, an image is the same"
 

@@ -1,9 +1,6 @@
 -- Texts and what they give, by computing: records of each form, and each refusal.
 -- Assumes nothing.
-use mathlib.Core.Path.{◌≡◌, refl}
-use mathlib.Core.List.{List, [], ◌∷◌, ◌++◌, map}
-use Prim.Native.Nat.{ℕ}
-use lib.ListN.{take, drop}
+use Rattle.std.proofs.Common.{◌≡◌, refl, List, [], ◌∷◌, ◌++◌, map, ℕ, take, drop}
 use Rattle.lines.specs.Ascii.{ascii}
 use Rattle.lines.specs.Digits as lines
 use Rattle.intelhex.specs.Lines.{feeds, onto, lines_of}

@@ -1,16 +1,9 @@
 -- Laws of the text that is written.
 -- Assumes nothing.
-use mathlib.Core.Path.{◌≡◌, refl, sym, ap, ◌∙◌, subst}
-use mathlib.Core.Bool.{true, false}
-use mathlib.Core.List.{List, [], ◌∷◌, ◌++◌}
-use Prim.Native.Nat.{ℕ, zero, suc, ◌+◌, ◌-◌, ◌*◌, ◌/◌, ◌%◌, ◌≤◌, ◌<◌}
-use native.Mathlib.Numerals.{add-one}
-use native.Mathlib.Nat.{sub-zero}
-use native.Mathlib.Omega.{arith}
-use lib.ListN.{length, get_or, take, drop, drop_of_length-le, length-append, length-drop}
-use lib.Seq.{drop-cons, drop-drop, length-take-le}
-use borrow.Author.Tests.{le-leb, lt-leb, le-ltb, lt-ltb}
-use mathlib.Core.Logic.{⊎_elim}
+use Rattle.std.proofs.Common.{◌≡◌, refl, sym, ap, ◌∙◌, subst, true, false, List, [], ◌∷◌, ◌++◌, ℕ, zero, suc, ◌+◌, ◌-◌, ◌*◌, ◌/◌, ◌%◌, ◌≤◌}
+use Rattle.std.proofs.Common.{◌<◌, add-one, arith, length, get_or, take, drop, drop_of_length-le, length-append, length-drop, drop-cons}
+use Rattle.std.proofs.Common.{take_at, drop_at, length-take-le, le-leb, le-ltb, lt-ltb, ⊎_elim}
+use borrow.Author.Tests.{lt-leb}
 use Rattle.lines.proofs.Widths.{either}
 use Rattle.lines.specs.Ascii.{ascii}
 use Rattle.lines.specs.Digits.{digits_of, show_hex}
@@ -49,36 +42,26 @@ pairs_end s i l = rw (drop_of_length-le s l)
 
 -- ---- rows
 
-rows_cons : (bs : List ℕ) (n k : ℕ) → k < n
-    → rows (n - k) (k * 16) (drop (k * 16) bs) ≡ row (k * 16) (take 16 (drop (k * 16) bs)) ++ rows (n - (k + 1)) ((k + 1) * 16) (drop ((k + 1) * 16) bs)
+pub more_rest : (bs more : List ℕ) {rest : List ℕ} → length bs ≡ 16 → rest ≡ bs ++ more → length rest ≡ 16 + length more
+more_rest bs more l e = ap length e ∙ length-append bs more ∙ ap (λ (n : ℕ). n + length more) l
+
+-- a row, and what is left after it
+rows_cons : (n at : ℕ) (bs more : List ℕ) {rest : List ℕ} → length bs ≡ 16 → rest ≡ bs ++ more → n ≡ length rest / 16
+    → rows n at rest ≡ row at bs ++ rows (length more / 16) (at + 16) more
 unfolding rows
-rows_cons bs n k l =
-    let left : n - k ≡ suc (n - (k + 1)) = omega arith in
-    let next : k * 16 + 16 ≡ (k + 1) * 16 = omega arith in
-    rw (left, drop-drop 16 (k * 16) bs, next)
+rows_cons n at bs more {rest} l e h =
+    let left : n ≡ suc (length more / 16) = omega (arith, h, ap length e, length-append bs more) in
+    rw (left, e, take_at bs more 16 l, drop_at bs more 16 l)
 
-pub rows_start : (bs : List ℕ) (n : ℕ) (out : List ℕ) → Owes out 0 (rows n 0 bs) (rows (n - 0) (0 * 16) (drop (0 * 16) bs)) out 0
-rows_start bs n out = rw sub-zero (record { over = refl; ends = refl })
+pub rows_pay : (at : ℕ) (bs more : List ℕ) {w start past end : ℕ} {old text out next rest : List ℕ} → length bs ≡ 16 → rest ≡ bs ++ more
+    → Owes old start text (rows (length rest / 16) at rest) out past → Puts w out past (row at bs) next end
+    → Owes old start text (rows (length more / 16) (at + 16) more) next end
+rows_pay at bs more {start = start} {past = past} {old = old} {text = text} {out = out} l e o f =
+    less (subst (λ (r : List ℕ). Owes old start text r out past) (rows_cons _ at bs more l e refl) o) f
 
-span : (k : ℕ) → k * 16 + 16 - k * 16 ≡ 16
-span k = omega arith
-
-pub sixteen : (bs : List ℕ) (k : ℕ) → k * 16 + 16 ≤ length bs → length (take (k * 16 + 16 - k * 16) (drop (k * 16) bs)) ≡ 16
-sixteen bs k h = rw span (length-take-le 16 (drop (k * 16) bs) (omega (arith, length-drop (k * 16) bs)))
-
-pub rows_pay : (bs : List ℕ) (n k : ℕ) {w at past end : ℕ} {old text out next : List ℕ} → k < n
-    → Owes old at text (rows (n - k) (k * 16) (drop (k * 16) bs)) out past
-    → Puts w out past (row (k * 16) (take (k * 16 + 16 - k * 16) (drop (k * 16) bs))) next end → Owes old at text
-    (rows (n - (k + 1)) ((k + 1) * 16) (drop ((k + 1) * 16) bs)) next end
-rows_pay bs n k {w = w} {at = at} {past = past} {end = end} {old = old} {text = text} {out = out} {next = next} l o f =
-    less (subst (λ (r : List ℕ). Owes old at text r out past) (rows_cons bs n k l) o)
-    (subst (λ (m : ℕ). Puts w out past (row (k * 16) (take m (drop (k * 16) bs))) next end) (span k) f)
-
-pub rows_end : (bs : List ℕ) (n k : ℕ) → n ≤ k → rows (n - k) (k * 16) (drop (k * 16) bs) ≡ []
+pub rows_end : (n at : ℕ) (rest : List ℕ) → n ≡ 0 → rows n at rest ≡ []
 unfolding rows
-rows_end bs n k l =
-    let none : n - k ≡ 0 = omega arith in
-    rw none
+rows_end n at rest e = rw e
 
 -- ---- a row
 

@@ -3,8 +3,6 @@ use Rattle.std.specs.Prelude.{Bool, true, false, cond, List, [], ◌∷◌, ◌+
 use Rattle.lines.specs.Ascii.{ascii}
 use Rattle.lines.specs.Digits.{laid, show_hex}
 use Rattle.intelhex.specs.Records.{Record, holds, end, bad, total, records}
-use Rattle.intelhex.specs.declared.dump.Read.{Read}
-use Rattle.intelhex.specs.declared.dump.Written.{Written}
 
 -- an image has 1 to 8 groups; any other is answered by 11
 unfoldable pub groups : ℕ → Bool
@@ -14,6 +12,11 @@ abbrev pub zeros : ℕ → List ℕ
 zeros n = replicate n 0
 
 -- ---- reading
+
+-- an answer, and the line at fault: 0 where there is none
+pub record Read : Type 0 where
+  pub answer : ℕ
+  pub line : ℕ
 
 abbrev pub told : ℕ → ℕ → Read
 told a n = record { answer = a; line = n }
@@ -86,6 +89,11 @@ text_of image = rows (length image / 16) 0 image ++ ascii ":00000001FF\n"
 -- as long as the text of an image of n bytes
 abbrev pub needs : ℕ → ℕ
 needs n = n / 16 * 44 + 12
+
+-- an answer, and how many bytes of the output are the text
+pub record Written : Type 0 where
+  pub answer : ℕ
+  pub count : ℕ
 
 abbrev pub wrote : ℕ → ℕ → Written
 wrote a n = record { answer = a; count = n }

@@ -1,15 +1,20 @@
 -- What the code's values say in the words of the format, and what its contracts say.
-use Rattle.std.specs.Prelude.{◌≡◌, cond, List, [], ◌∷◌, ℕ, zero, suc, ◌+◌, ◌*◌, ◌≤◌, ◌<◌, eqb, length, get_or, take, drop}
+use Rattle.std.specs.Prelude.{◌≡◌, true, false, Option, Some, None, Result, Ok, Err, cond, List, [], ◌∷◌, ℕ, zero, suc, ◌*◌, ◌/◌, ◌<◌, eqb, length, get_or, drop}
+use Rattle.std.specs.Borrow.{Bor}
 use Rattle.lines.specs.Shown.{Lent, SeenLent}
-use Rattle.intelhex.specs.Dump.{trial, named, read_answer, read_image, write_answer, write_out}
-use Rattle.intelhex.specs.Lines.{cr}
+use Rattle.intelhex.specs.Dump.{Read, told, Written, wrote, trial, named, read_answer, read_image, write_answer, write_out}
+use Rattle.intelhex.specs.Lines.{cr, lines_of}
 use Rattle.intelhex.specs.Records as format
-use Rattle.intelhex.specs.Records.{pairs, records}
+use Rattle.intelhex.specs.Records.{pairs, formed, records}
 use Rattle.intelhex.specs.declared.line.Record.{Record}
-use Rattle.intelhex.specs.declared.line.Record.TheVariants.{Holds, End, Bad}
-use Rattle.intelhex.specs.declared.line.Line.{Line}
-use Rattle.intelhex.specs.declared.dump.Read.{Read}
-use Rattle.intelhex.specs.declared.dump.Written.{Written}
+use Rattle.intelhex.specs.declared.line.Record.TheVariants.{Holds, End}
+use Rattle.intelhex.specs.declared.reader.Reader.{Reader}
+use Rattle.intelhex.specs.declared.flags.Clash.{Clash}
+use Rattle.intelhex.specs.declared.flags.Clash.TheVariants.{Beyond, Twice}
+use Rattle.intelhex.specs.declared.dump.ReadError.{ReadError}
+use Rattle.intelhex.specs.declared.dump.ReadError.TheVariants as fault
+use Rattle.intelhex.specs.declared.dump.WriteError.{WriteError}
+use Rattle.intelhex.specs.declared.dump.WriteError.TheVariants as unwritten
 
 -- ---- lines and records
 
@@ -18,37 +23,72 @@ unfoldable pub stop_of : List ℕ → ℕ → ℕ
 stop_of s zero = zero
 stop_of s (suc m) = cond (eqb cr (get_or s m 0)) m (suc m)
 
--- the bytes whose digits stand in a text from a place on
-unfoldable pub pairs_at : List ℕ → ℕ → ℕ → List ℕ
-pairs_at text from count = pairs (take (2 * count) (drop from text))
+-- a line is formed, and its digits follow the colon; or it isn't
+abbrev pub Forms : List ℕ → Option (Bor (List ℕ)) → Type 0
+Forms s None = formed s ≡ false
+Forms s (Some digits) = (formed s ≡ true) × (digits.now ≡ drop 1 s)
 
--- a record whose line begins at a place of a text: its bytes' digits are the tenth character and those after it
-abbrev pub said : List ℕ → ℕ → Record → format.Record
-said text start (Holds b) = format.holds b.address (pairs_at text (start + 9) b.count)
-said text start End = format.end
-said text start Bad = format.bad
+-- a record's bytes are those that its digits say; a line that says none is bad
+abbrev pub said : Option Record → format.Record
+said None = format.bad
+said (Some (Holds b)) = format.holds b.address (pairs b.digits.now)
+said (Some End) = format.end
 
--- its digits stand within the text
-abbrev pub Reaches : List ℕ → ℕ → Record → Type 0
-Reaches text start (Holds b) = (start + 9 + 2 * b.count ≤ length text) × (b.address < 65536) × (b.count < 256)
-Reaches text start End = Unit {0}
-Reaches text start Bad = Unit {0}
+-- two digits for each byte, of which there are at most 255; the address has 16 bits
+abbrev pub Reaches : Option Record → Type 0
+Reaches None = Unit {0}
+Reaches (Some (Holds b)) = (2 * (length b.digits.now / 2) ≡ length b.digits.now) × (b.address < 65536) × (length b.digits.now / 2 < 256)
+Reaches (Some End) = Unit {0}
 
 -- a line says the record of a text
-pub record Says (line : List ℕ) (r : Record) : Type 0 where
-  pub means : said line 0 r ≡ format.record_of line
-  pub within : Reaches line 0 r
+pub record Says (line : List ℕ) (r : Option Record) : Type 0 where
+  pub means : said r ≡ format.record_of line
+  pub within : Reaches r
 
--- the first of the records from a place on, and where the others begin
-pub record Turns (text : List ℕ) (at : ℕ) (l : Line) : Type 0 where
-  pub means : records (drop at text) ≡ said text l.start l.item ∷ records (drop l.next text)
-  pub within : Reaches text l.start l.item
-  pub on : at < l.next
-  pub inside : l.next ≤ length text
+-- a text's first line, and what is left
+pub record Cuts (text line left : List ℕ) : Type 0 where
+  pub lines : lines_of text ≡ line ∷ lines_of left
+  pub on : length left < length text
 
--- at a place inside the text
-abbrev pub Next : List ℕ → ℕ → Line → Type 0
-Next text at l = at < length text → Turns text at l
+-- the first of the records of a text, and what is left after its line
+pub record Turn (text : List ℕ) (r : Option Record) (left : List ℕ) : Type 0 where
+  pub means : records text ≡ said r ∷ records left
+  pub within : Reaches r
+  pub on : length left < length text
+
+-- one call of a reader: nothing where nothing is left
+abbrev pub Turns : Reader → Option (Option Record) → Reader → Type 0
+Turns s None t = (length s.left.now ≡ 0) × (t ≡ s)
+Turns s (Some r) t = Turn s.left.now r t.left.now
+
+-- ---- answers
+
+abbrev pub clash_of : Clash → ℕ
+clash_of Beyond = 20
+clash_of Twice = 21
+
+-- 0 where the addresses were named
+abbrev pub mark_of : {A : Type 0} → Result A Clash → ℕ
+mark_of (Ok done) = 0
+mark_of (Err e) = clash_of e
+
+abbrev pub fault_of : ReadError → Read
+fault_of fault.WrongLength = told 11 0
+fault_of (fault.BadRecord line) = told 20 line
+fault_of (fault.NamedTwice line) = told 21 line
+fault_of (fault.NoEnd line) = told 22 line
+
+abbrev pub read_of : {A : Type 0} → Result A ReadError → Read
+read_of (Ok done) = told 0 0
+read_of (Err e) = fault_of e
+
+abbrev pub unwritten_of : WriteError → ℕ
+unwritten_of unwritten.WrongLength = 11
+unwritten_of unwritten.TooShort = 31
+
+abbrev pub write_of : Result ℕ WriteError → Written
+write_of (Ok count) = wrote 0 count
+write_of (Err e) = wrote (unwritten_of e) 0
 
 -- ---- the calls
 

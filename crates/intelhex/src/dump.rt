@@ -1,92 +1,124 @@
 // A text of records read into an image, and an image written as one.
-ghost use Rattle.std.specs.Prelude.{◌≡◌, ◌+◌, ◌*◌, ◌<◌, ◌≤◌, length};
+ghost use Rattle.std.specs.Prelude.{◌≡◌};
 ghost use Rattle.lines.specs.Digits.{laid};
 ghost use Rattle.intelhex.specs.Dump;
-ghost use Rattle.intelhex.specs.Meaning.{pairs_at, Reads, Writes};
+ghost use Rattle.intelhex.specs.Dump.{told};
+ghost use Rattle.intelhex.specs.Meaning.{Reads, Writes, clash_of, fault_of, read_of, unwritten_of, write_of};
 ghost use Rattle.intelhex.specs.Records;
 
 use crate::digits::pair;
-use crate::flags::{clear, mark};
-use crate::line::Record;
-use crate::reader::record_at;
+use crate::flags::{Clash, mark};
+use crate::line::{Bytes, Record};
+use crate::reader::Reader;
 use crate::rows::put_rows;
 use lines::print::put_word;
 
-// The line at fault; 0 where there is none.
-#[derive(Clone, Copy)]
-pub struct Read {
-    pub answer: u8,
-    pub line: usize,
+// Why a text is not read, and the line at fault.
+#[derive(Clone, Copy, PartialEq, Eq, Debug)]
+pub enum ReadError {
+    WrongLength,
+    BadRecord(usize),
+    NamedTwice(usize),
+    NoEnd(usize),
 }
 
-// How many bytes of the output are the text.
-#[derive(Clone, Copy)]
-pub struct Written {
-    pub answer: u8,
-    pub count: usize,
+impl ReadError {
+    // Its number.
+    pub fn answer(self) -> u8
+        ensures { result ≡ (fault_of self).answer }
+    {
+        match self {
+            ReadError::WrongLength => 11,
+            ReadError::BadRecord(_) => 20,
+            ReadError::NamedTwice(_) => 21,
+            ReadError::NoEnd(_) => 22,
+        }
+    }
+
+    // The line at fault, 0 where there is none.
+    pub fn line(self) -> usize
+        ensures { result ≡ (fault_of self).line }
+    {
+        match self {
+            ReadError::WrongLength => 0,
+            ReadError::BadRecord(line) | ReadError::NamedTwice(line) | ReadError::NoEnd(line) =>
+                line,
+        }
+    }
+}
+
+// Why an image is not written.
+#[derive(Clone, Copy, PartialEq, Eq, Debug)]
+pub enum WriteError {
+    WrongLength,
+    TooShort,
+}
+
+impl WriteError {
+    // Its number.
+    pub fn answer(self) -> u8
+        ensures { result ≡ unwritten_of self }
+    {
+        match self {
+            WriteError::WrongLength => 11,
+            WriteError::TooShort => 31,
+        }
+    }
 }
 
 // Whether an image may have so many bytes.
 fn groups(n: usize) -> bool
     ensures { result ≡ Dump.groups n }
 {
-    if n < 8192 {
-        return false;
-    }
-    if 65536 < n {
+    if n < 8192 || 65536 < n {
         return false;
     }
     n % 8192 == 0
 }
 
-// The answer and its line.
-fn judge(text: &[u8], flags: &mut [u8]) -> Read
-    ensures { result ≡ Dump.judged flags.old 1 (Records.records text.now) }
+// A record whose addresses can't be named.
+fn at_line(clash: Clash, line: usize) -> ReadError
+    ensures { fault_of result ≡ told (clash_of clash) line }
 {
-    let n = text.len();
-    let mut at = 0;
-    let mut line = 1;
-    while at < n {
-        let l = record_at(text, at);
-        let item = l.item;
-        at = l.next;
-        match item {
-            Record::Bad => {
-                return Read { answer: 20, line };
-            }
-            Record::End => {
-                if at < n {
-                    line += 1;
-                    return Read { answer: 20, line };
-                }
-                return Read { answer: 0, line: 0 };
-            }
-            Record::Holds(b) => {
-                let address = b.address;
-                let count = b.count;
-                let a = mark(flags, address, count);
-                if a != 0 {
-                    return Read { answer: a, line };
-                }
-                line += 1;
-            }
-        }
+    match clash {
+        Clash::Beyond => ReadError::BadRecord(line),
+        Clash::Twice => ReadError::NamedTwice(line),
     }
-    Read { answer: 22, line }
+}
+
+// Whether the records are sound, line by line.
+fn judge(text: &[u8], flags: &mut [u8]) -> Result<(), ReadError>
+    ensures { read_of result ≡ Dump.judged flags.old 1 (Records.records text.now) }
+{
+    let mut records = Reader::new(text);
+    let mut line = 1;
+    while let Some(said) = records.next() {
+        let Some(record) = said else {
+            return Err(ReadError::BadRecord(line));
+        };
+        let bytes = match record {
+            Record::Holds(bytes) => bytes,
+            Record::End if records.left.is_empty() => return Ok(()),
+            Record::End => return Err(ReadError::BadRecord(line + 1)),
+        };
+        let count = bytes.digits.len() / 2;
+        if let Err(clash) = mark(flags, usize::from(bytes.address), count) {
+            return Err(at_line(clash, line));
+        }
+        line += 1;
+    }
+    Err(ReadError::NoEnd(line))
 }
 
 // The bytes of a record, each at its address. None lies past the image, since the record was judged: the test spares saying so.
-fn put_bytes(text: &[u8], from: usize, count: usize, image: &mut [u8], at: usize)
-    requires { (from + 2 * count ≤ length text.now) × (at < 65536) × (count < 256) }
-    ensures { image.new ≡ laid image.old at (pairs_at text.now from count) }
+fn put_bytes(bytes: Bytes<'_>, image: &mut [u8])
+    ensures { image.new ≡ laid image.old bytes.entry.address (Records.pairs bytes.entry.digits.now) }
 {
-    let mut i = 0;
-    while i < count {
-        let cell = at + i;
-        let digits = from + 2 * i;
-        i += 1;
+    let first = usize::from(bytes.address);
+    for (i, digits) in bytes.digits.chunks_exact(2).enumerate() {
+        let cell = first + i;
         if cell < image.len() {
-            image[cell] = pair(text, digits);
+            image[cell] = pair(digits, 0);
         }
     }
 }
@@ -95,65 +127,45 @@ fn put_bytes(text: &[u8], from: usize, count: usize, image: &mut [u8], at: usize
 fn fill(text: &[u8], image: &mut [u8])
     ensures { image.new ≡ Dump.filled image.old (Records.records text.now) }
 {
-    let n = text.len();
-    let mut at = 0;
-    while at < n {
-        let l = record_at(text, at);
-        let item = l.item;
-        let start = l.start;
-        at = l.next;
-        match item {
-            Record::Holds(b) => {
-                let address = b.address;
-                let count = b.count;
-                let from = start + 9;
-                put_bytes(text, from, count, image, address);
-            }
+    for said in Reader::new(text) {
+        let Some(record) = said else { continue };
+        match record {
+            Record::Holds(bytes) => put_bytes(bytes, image),
             Record::End => {}
-            Record::Bad => {}
         }
     }
 }
 
 // Reads a text of records. The image serves as the flags of named addresses first, then it is filled.
-pub fn read_hex(text: &[u8], image: &mut [u8]) -> Read
-    ensures { Reads text image result }
+pub fn read_hex(text: &[u8], image: &mut [u8]) -> Result<(), ReadError>
+    ensures { Reads text image (read_of result) }
 {
     if !groups(image.len()) {
-        return Read {
-            answer: 11,
-            line: 0,
-        };
+        return Err(ReadError::WrongLength);
     }
-    clear(image);
-    let r = judge(text, image);
-    clear(image);
-    if r.answer != 0 {
-        return r;
+    image.fill(0);
+    let judged = judge(text, image);
+    image.fill(0);
+    if judged.is_ok() {
+        fill(text, image);
     }
-    fill(text, image);
-    r
+    judged
 }
 
-// Writes an image out.
-pub fn write_hex(image: &[u8], out: &mut [u8]) -> Written
-    ensures { Writes image out result }
+// Writes an image out: how many bytes of the output are the text.
+#[tactic(auto, using(crate::proofs::Writing::groups_most))]
+pub fn write_hex(image: &[u8], out: &mut [u8]) -> Result<usize, WriteError>
+    ensures { Writes image out (write_of result) }
 {
     let n = image.len();
     if !groups(n) {
-        return Written {
-            answer: 11,
-            count: 0,
-        };
+        return Err(WriteError::WrongLength);
     }
     let need = n / 16 * 44 + 12;
     if out.len() < need {
-        return Written {
-            answer: 31,
-            count: 0,
-        };
+        return Err(WriteError::TooShort);
     }
     let past = put_rows(image, out);
     let count = put_word(out, past, b":00000001FF\n");
-    Written { answer: 0, count }
+    Ok(count)
 }

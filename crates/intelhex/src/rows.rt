@@ -6,23 +6,13 @@ ghost use Rattle.intelhex.specs.Records;
 
 use lines::print::{put_digits, put_word};
 
-// A byte as a wider number.
-fn wide(b: u8) -> u64
-    ensures { (result ≡ b) × (result < 256) }
-{
-    b as u64
-}
-
 // The sum of some bytes, modulo 256.
-fn sum_of(bytes: &[u8]) -> u64
+fn sum_of(bytes: &[u8]) -> u8
     ensures { result ≡ Records.total bytes.now % 256 }
 {
-    let mut t: u64 = 0;
-    let mut i = 0;
-    while i < bytes.len() {
-        let b = wide(bytes[i]);
-        t = (t + b) % 256;
-        i += 1;
+    let mut t: u8 = 0;
+    for b in bytes {
+        t = t.wrapping_add(*b);
     }
     t
 }
@@ -33,11 +23,8 @@ pub fn put_pairs(out: &mut [u8], at: usize, bytes: &[u8]) -> usize
     ensures { Prints (2 * length bytes.now) (Dump.show_bytes bytes.now) out at result }
 {
     let mut past = at;
-    let mut i = 0;
-    while i < bytes.len() {
-        let b = wide(bytes[i]);
-        past = put_digits(out, past, 16, 2, b);
-        i += 1;
+    for b in bytes {
+        past = put_digits(out, past, 16, 2, u64::from(*b));
     }
     past
 }
@@ -51,7 +38,7 @@ fn put_row(out: &mut [u8], at: usize, address: usize, bytes: &[u8]) -> usize
     let b = put_digits(out, a, 16, 4, address as u64);
     let c = put_word(out, b, b"00");
     let d = put_pairs(out, c, bytes);
-    let s = sum_of(bytes);
+    let s = u64::from(sum_of(bytes));
     let high = (address / 256) as u64;
     let low = (address % 256) as u64;
     let all = 16 + high + low + s;
@@ -66,14 +53,10 @@ pub fn put_rows(image: &[u8], out: &mut [u8]) -> usize
     requires { (length image.now ≤ 65536) × (length image.now / 16 * 44 ≤ length out.old) }
     ensures { Prints (length image.now / 16 * 44) (Dump.rows (length image.now / 16) 0 image.now) out 0 result }
 {
-    let n = image.len() / 16;
     let mut past = 0;
-    let mut k = 0;
-    while k < n {
+    for (k, bytes) in image.chunks_exact(16).enumerate() {
         let from = k * 16;
-        let end = from + 16;
-        past = put_row(out, past, from, &image[from..end]);
-        k += 1;
+        past = put_row(out, past, from, bytes);
     }
     past
 }

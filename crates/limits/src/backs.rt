@@ -1,97 +1,66 @@
 // Steps back over a record that was never made, in an image of two groups of which the second may be written, and a third, which there is not.
 use crate::shown;
+use crate::trial::Machine;
 use bench::at::At;
+use desk::state::first;
 use std::io;
 use std::io::Write;
 
-// A journal of two words, so many of them used, over an image of zeros.
+// A mark that carries pc >0042.
+const MARK: u32 = 0x6000_0042;
+
+// What it is, the words of the journal, and how many of them are used.
+const CASES: [(&str, [u32; 2], usize); 18] = [
+    ("no step to take back", [0, 0], 0),
+    ("a mark, and pad >00 had >55", [MARK, 0x0000_0055], 2),
+    ("a mark, and VDP >3FFF had >55", [MARK, 0x203F_FF55], 2),
+    ("a mark, and register 7 had >55", [MARK, 0x4000_0755], 2),
+    ("a mark, and GROM >2000 had >55", [MARK, 0x8020_0055], 2),
+    ("a mark, and GROM >3FFF had >55", [MARK, 0x803F_FF55], 2),
+    ("no mark below", [0x0000_0055, 0x0000_0155], 2),
+    ("a mark with a surplus bit", [0x6002_0042, 0x0000_0055], 2),
+    ("pad >E0", [MARK, 0x0000_E055], 2),
+    ("VDP >4000", [MARK, 0x2040_0055], 2),
+    ("register 8", [MARK, 0x4000_0855], 2),
+    (
+        "GROM >1FFF: group 0 is not writable",
+        [MARK, 0x801F_FF55],
+        2,
+    ),
+    ("GROM >4000: beyond the image", [MARK, 0x8040_0055], 2),
+    ("GROM >10000: no address", [MARK, 0x8100_0055], 2),
+    ("kind 5", [MARK, 0xA000_0055], 2),
+    ("kind 6", [MARK, 0xC000_0055], 2),
+    ("kind 7", [MARK, 0xE000_0055], 2),
+    ("more used than there are", [MARK, 0x0000_0055], 3),
+];
+
+// Over an image of zeros.
 fn try_back<W: Write>(
     output: &mut W,
-    what: &[u8],
     image: &mut [u8],
-    low: u32,
-    high: u32,
+    what: &str,
+    words: [u32; 2],
     used: usize,
 ) -> io::Result<()> {
-    let was = [0u8; 16384];
-    let mut pad = [0u8; 256];
-    let mut vram = [0u8; 16384];
-    let mut regs = [0u8; 8];
-    let mut journal = [0u32; 2];
-    pad[0x73] = 0x7E;
-    journal[0] = low;
-    journal[1] = high;
+    let mut journal = words;
     let at = At {
         pc: 0x1234,
         used,
-        ring: false,
-        place: 0,
         writable: 0x06,
-        source: false,
+        ..first()
     };
-    let b = bench::walk::step_back(image, &mut pad, &mut vram, &mut regs, &mut journal, at);
-    shown::show_run(output, what, shown::as_run(b), &pad, &vram, &regs)?;
-    shown::show_groms(output, &was, image)
-}
-
-fn in_two<W: Write>(
-    output: &mut W,
-    what: &[u8],
-    low: u32,
-    high: u32,
-    used: usize,
-) -> io::Result<()> {
-    let mut image = [0u8; 16384];
-    try_back(output, what, &mut image, low, high, used)
-}
-
-// A mark that carries pc >0042, and a word above it.
-fn try_word<W: Write>(output: &mut W, what: &[u8], word: u32) -> io::Result<()> {
-    in_two(output, what, 0x6000_0042, word, 2)
+    let mut machine = Machine::new(image, &mut journal, at);
+    let report = machine.step_back();
+    writeln!(output, "{what}")?;
+    shown::show_run(output, report, &machine.cells)?;
+    shown::show_groms(output, &[0; 16384], machine.image)
 }
 
 pub(crate) fn all<W: Write>(output: &mut W) -> io::Result<()> {
-    in_two(output, b"no step to take back\n", 0, 0, 0)?;
-    try_word(output, b"a mark, and pad >00 had >55\n", 0x0000_0055)?;
-    try_word(output, b"a mark, and VDP >3FFF had >55\n", 0x203F_FF55)?;
-    try_word(output, b"a mark, and register 7 had >55\n", 0x4000_0755)?;
-    try_word(output, b"a mark, and GROM >2000 had >55\n", 0x8020_0055)?;
-    try_word(output, b"a mark, and GROM >3FFF had >55\n", 0x803F_FF55)?;
-    in_two(output, b"no mark below\n", 0x0000_0055, 0x0000_0155, 2)?;
-    in_two(
-        output,
-        b"a mark with a surplus bit\n",
-        0x6002_0042,
-        0x0000_0055,
-        2,
-    )?;
-    try_word(output, b"pad >E0\n", 0x0000_E055)?;
-    try_word(output, b"VDP >4000\n", 0x2040_0055)?;
-    try_word(output, b"register 8\n", 0x4000_0855)?;
-    try_word(
-        output,
-        b"GROM >1FFF: group 0 is not writable\n",
-        0x801F_FF55,
-    )?;
-    try_word(output, b"GROM >4000: beyond the image\n", 0x8040_0055)?;
-    try_word(output, b"GROM >10000: no address\n", 0x8100_0055)?;
-    try_word(output, b"kind 5\n", 0xA000_0055)?;
-    try_word(output, b"kind 6\n", 0xC000_0055)?;
-    try_word(output, b"kind 7\n", 0xE000_0055)?;
-    in_two(
-        output,
-        b"more used than there are\n",
-        0x6000_0042,
-        0x0000_0055,
-        3,
-    )?;
-    let mut short = [0u8; 16383];
-    try_back(
-        output,
-        b"an image that is no whole group\n",
-        &mut short,
-        0x6000_0042,
-        0x0000_0055,
-        2,
-    )
+    for (what, words, used) in CASES {
+        try_back(output, &mut [0; 16384], what, words, used)?;
+    }
+    let short = "an image that is no whole group";
+    try_back(output, &mut [0; 16383], short, [MARK, 0x0000_0055], 2)
 }

@@ -5,4 +5,5 @@ pub mod Printing
 pub mod Reading
 pub mod Said
 pub mod Samples
+pub mod Trying
 pub mod Widths

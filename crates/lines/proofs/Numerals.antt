@@ -1,19 +1,15 @@
 -- Laws of digits and of the numbers that they say: at the start, at one digit more, at a character that is none, and at the end.
 -- Assumes nothing.
-use mathlib.Core.Path.{◌≡◌, refl, sym}
-use mathlib.Core.Bool.{Bool, true, false, cond, ◌&&◌}
-use mathlib.Core.List.{List, [], ◌∷◌}
-use mathlib.Core.Logic.{⊎_elim}
-use mathlib.Core.Option.{Option, none, some}
-use Prim.Native.Nat.{ℕ, zero, suc, ◌+◌, ◌-◌, ◌*◌, ◌≤◌, ◌<◌}
-use native.Mathlib.Numerals.{add-one}
-use native.Mathlib.Nat.{le-mul_of_pos_right, eq-or-lt_of_le, le_of_suc-le-suc, not-suc-le-zero}
-use native.Mathlib.Omega.{arith}
-use lib.Dec.{T, eqb, ltb, eqb→eq}
-use lib.ListN.{length, get_or, drop, drop_of_length-le}
-use lib.Seq.{drop-cons}
-use borrow.Author.Tests.{lt-ltb, le-ltb, le-leb, lt-leb, eq-eqb, ne_eqb}
-use Rattle.lines.specs.Digits.{before, digit, glyph, numeral_from, numeral, up_to, all_hex, begins}
+use Rattle.std.proofs.Common.{◌≡◌, refl, sym, Bool, true, false, cond, ◌&&◌, List, [], ◌∷◌, Option, Some, None, SomeIff, unwrap_or}
+use Rattle.std.proofs.Common.{ℕ, zero, suc, ◌+◌, ◌-◌, ◌*◌, ◌/◌, ◌%◌, ◌≤◌, ◌<◌, add-one, le-mul_of_pos_right}
+use Rattle.std.proofs.Common.{arith, eqb, ltb, length, get_or, drop, drop_of_length-le}
+use Rattle.std.proofs.Common.{drop-cons, lt-ltb, le-ltb, le-leb, eq-eqb, ne_eqb}
+use borrow.Author.Tests.{lt-leb}
+use Rattle.std.specs.List.{list_all}
+use Rattle.std.proofs.lemmas.List.Recursion.{same_from_clauses}
+use Rattle.std.proofs.lemmas.Bool.Decides.{Decides-below_and}
+use Rattle.std.proofs.Common.{eqb-true}
+use Rattle.lines.specs.Digits.{capitals, before, digit, glyph, numeral_from, numeral, up_to, all_hex, byte_count}
 
 -- ---- a digit, by the ranges of characters
 
@@ -21,29 +17,59 @@ abbrev pub ranged : ℕ → ℕ
 ranged c = cond (ltb c 48) 16 (cond (ltb c 58) (c - 48) (cond (ltb c 65) 16 (cond (ltb c 71) (c - 55) 16)))
 
 -- a test of every number below another
-abbrev below : (ℕ → Bool) → ℕ → Bool
-below f zero = true
-below f (suc n) = f n && below f n
+abbrev pub below : (ℕ → Bool) → ℕ → Bool
+below p zero = true
+below p (suc n) = p n && below p n
 
-first : (a b : Bool) → T (a && b) → T a
-first true b t = tt
-first false b t = absurd t
-
-second : (a b : Bool) → T (a && b) → T b
-second true b t = t
-second false b t = absurd t
-
-tested : (f : ℕ → Bool) (n : ℕ) → T (below f n) → (k : ℕ) → k < n → T (f k)
-tested f zero t k h = absurd (not-suc-le-zero h)
-tested f (suc n) t k h =
-    ⊎_elim (λ e. rw e (first (f n) (below f n) t)) (λ l. tested f n (second (f n) (below f n) t) k l) (eq-or-lt_of_le (le_of_suc-le-suc h))
+pub tested : (p : ℕ → Bool) (n : ℕ) → below p n ≡ true → (k : ℕ) → k < n → p k ≡ true
+tested p n e = (Decides-below_and p (λ k. p k ≡ true) (below p) (λ k. (λ q. q, λ q. q)) refl (λ _. refl) n).0 e
 
 right : ℕ → Bool
 right c = eqb (digit c) (ranged c)
 
 pub by_range : (c : ℕ) → c < 256 → digit c ≡ ranged c
 unfolding digit before right
-by_range c h = eqb→eq _ _ (tested right 256 tt c h)
+by_range c h = eqb-true _ _ (tested right 256 refl c h)
+
+-- range by range
+pub digit_low : (c : ℕ) → 48 ≤ c → c < 58 → digit c ≡ c - 48
+digit_low c l h = rw (by_range c (omega arith), le-ltb c 48 l, lt-ltb c 58 h)
+
+pub digit_high : (c : ℕ) → 65 ≤ c → c < 71 → digit c ≡ c - 55
+digit_high c l h =
+    let some : 48 ≤ c = omega arith in
+    let more : 58 ≤ c = omega arith in
+    rw (by_range c (omega arith), le-ltb c 48 some, le-ltb c 58 more, le-ltb c 65 l, lt-ltb c 71 h)
+
+pub digit_below : (c : ℕ) → c < 48 → digit c ≡ 16
+digit_below c h = rw (by_range c (omega arith), lt-ltb c 48 h)
+
+pub digit_between : (c : ℕ) → 58 ≤ c → c < 65 → digit c ≡ 16
+digit_between c l h =
+    let some : 48 ≤ c = omega arith in
+    rw (by_range c (omega arith), le-ltb c 48 some, le-ltb c 58 l, lt-ltb c 65 h)
+
+pub digit_above : (c : ℕ) → 71 ≤ c → c < 256 → digit c ≡ 16
+digit_above c l h =
+    let some : 48 ≤ c = omega arith in
+    let more : 58 ≤ c = omega arith in
+    let most : 65 ≤ c = omega arith in
+    rw (by_range c h, le-ltb c 48 some, le-ltb c 58 more, le-ltb c 65 most, le-ltb c 71 l)
+
+one_more : (b : Bool) (n m : ℕ) → n ≤ m → cond b 0 (suc n) ≤ suc m
+one_more true n m h = omega arith
+one_more false n m h = omega arith
+
+before_most : (c : ℕ) (ds : List ℕ) → before c ds ≤ length ds
+unfolding before
+before_most c [] = omega arith
+before_most c (d ∷ ds) = one_more (eqb c d) (before c ds) (length ds) (before_most c ds)
+
+-- what is no digit counts 16
+pub counted : (r : Option ℕ) (c : ℕ) → SomeIff r (digit c < 16) (digit c) → unwrap_or r 16 ≡ digit c
+unfolding digit
+counted None c h = omega (arith, h, before_most c capitals)
+counted (Some d) c h = h.1
 
 -- each digit says the number that it was chosen for
 same : ℕ → Bool
@@ -51,11 +77,11 @@ same k = eqb (digit (glyph k)) k
 
 pub digit_glyph : (k : ℕ) → k < 16 → digit (glyph k) ≡ k
 unfolding digit before glyph same
-digit_glyph k h = eqb→eq _ _ (tested same 16 tt k h)
+digit_glyph k h = eqb-true _ _ (tested same 16 refl k h)
 
 -- ---- a number
 
-pub number_none : (limit base : ℕ) (s : List ℕ) → length s ≡ 0 → none ≡ up_to limit (numeral base s)
+pub number_none : (limit base : ℕ) (s : List ℕ) → length s ≡ 0 → None ≡ up_to limit (numeral base s)
 unfolding numeral up_to
 number_none limit base [] e = refl
 number_none limit base (c ∷ cs) e = absurd (omega arith)
@@ -70,17 +96,17 @@ numeral_on : (base v i : ℕ) (s : List ℕ) → i < length s → digit (get_or 
 unfolding numeral_from
 numeral_on base v i s l d = rw (drop-cons s i 0 l, lt-ltb _ _ d, add-one)
 
-numeral_off : (base v i : ℕ) (s : List ℕ) → i < length s → base ≤ digit (get_or s i 0) → numeral_from base v (drop i s) ≡ none
+numeral_off : (base v i : ℕ) (s : List ℕ) → i < length s → base ≤ digit (get_or s i 0) → numeral_from base v (drop i s) ≡ None
 unfolding numeral_from
 numeral_off base v i s l d = rw (drop-cons s i 0 l, le-ltb _ _ d)
 
-neither : (limit : ℕ) (b : Bool) (x : Option ℕ) → up_to limit x ≡ none → up_to limit (cond b x none) ≡ none
+neither : (limit : ℕ) (b : Bool) (x : Option ℕ) → up_to limit x ≡ None → up_to limit (cond b x None) ≡ None
 unfolding up_to
 neither limit true x e = e
 neither limit false x e = refl
 
 -- what is past a limit stays past it
-past : (limit base v : ℕ) (s : List ℕ) → 1 ≤ base → limit < v → up_to limit (numeral_from base v s) ≡ none
+past : (limit base v : ℕ) (s : List ℕ) → 1 ≤ base → limit < v → up_to limit (numeral_from base v s) ≡ None
 unfolding numeral_from up_to
 past limit base v [] b h = rw (lt-leb v limit h)
 past limit base v (c ∷ cs) b h =
@@ -89,50 +115,49 @@ past limit base v (c ∷ cs) b h =
 
 -- where the digits so far say v: one more, d, is none; takes the number past the limit; or goes on; and the end
 module _ (base v i : ℕ) (s : List ℕ) (e : numeral base s ≡ numeral_from base v (drop i s)) where
-  pub number_off : (limit d : ℕ) → d ≡ digit (get_or s i 0) → i < length s → base ≤ d → none ≡ up_to limit (numeral base s)
+  pub number_off : (limit d : ℕ) → d ≡ digit (get_or s i 0) → i < length s → base ≤ d → None ≡ up_to limit (numeral base s)
   unfolding up_to
   number_off limit d q l h = rw (e, numeral_off base v i s l (omega arith))
 
   pub number_on : (d : ℕ) → d ≡ digit (get_or s i 0) → i < length s → d < base → numeral base s ≡ numeral_from base (v * base + d) (drop (i + 1) s)
   number_on d q l h = rw (e, numeral_on base v i s l (omega arith), q)
 
-  pub number_past : (limit d : ℕ) → d ≡ digit (get_or s i 0) → i < length s → d < base → 1 ≤ base → limit < v * base + d → none ≡ up_to limit (numeral base s)
+  pub number_past : (limit d : ℕ) → d ≡ digit (get_or s i 0) → i < length s → d < base → 1 ≤ base → limit < v * base + d → None ≡ up_to limit (numeral base s)
   number_past limit d q l h b o = rw (number_on d q l h) (sym (past limit base (v * base + d) (drop (i + 1) s) b o))
 
-  pub number_end : (limit : ℕ) → length s ≤ i → v ≤ limit → some v ≡ up_to limit (numeral base s)
+  pub number_end : (limit : ℕ) → length s ≤ i → v ≤ limit → Some v ≡ up_to limit (numeral base s)
   unfolding numeral_from up_to
   number_end limit l h = rw (e, drop_of_length-le s l, le-leb v limit h)
 
--- ---- all are hex digits
+-- ---- bytes
 
-module _ (i : ℕ) (s : List ℕ) (l : i < length s) where
-  pub hex_on : digit (get_or s i 0) < 16 → all_hex (drop i s) ≡ all_hex (drop (i + 1) s)
-  unfolding all_hex
-  hex_on d = rw (drop-cons s i 0 l, lt-ltb _ _ d, add-one)
+pub unless : (b c : Bool) → cond b c false ≡ (b && c)
+unless true c = refl
+unless false c = refl
 
-  pub hex_off : 16 ≤ digit (get_or s i 0) → all_hex (drop i s) ≡ false
-  unfolding all_hex
-  hex_off d = rw (drop-cons s i 0 l, le-ltb _ _ d)
-
-pub hex_end : (i : ℕ) (s : List ℕ) → length s ≤ i → all_hex (drop i s) ≡ true
+-- what `all` says of the characters
+pub hex_all : (s : List ℕ) → list_all (λ c. ltb (digit c) 16) s ≡ all_hex s
 unfolding all_hex
-hex_end i s l = rw (drop_of_length-le s l)
+hex_all s =
+    same_from_clauses (list_all (λ c. ltb (digit c) 16)) all_hex (λ c b. ltb (digit c) 16 && b) refl (λ c cs. refl) (λ c cs. unless (ltb (digit c) 16) (all_hex cs)) s
 
--- ---- a word at the beginning
+pub bytes_none : (s : List ℕ) → length s ≡ 0 → byte_count s ≡ 0
+unfolding byte_count all_hex
+bytes_none [] e = refl
+bytes_none (c ∷ cs) e = absurd (omega arith)
 
-module _ (i : ℕ) (word text : List ℕ) (l : i < length word) where
-  pub begins_short : length text ≤ i → begins (drop i word) (drop i text) ≡ false
-  unfolding begins
-  begins_short h = rw (drop-cons word i 0 l, drop_of_length-le text h)
+pub bytes_other : (s : List ℕ) → false ≡ all_hex s → byte_count s ≡ 0
+unfolding byte_count
+bytes_other s e = rw (← e)
 
-  pub begins_on : i < length text → get_or text i 0 ≡ get_or word i 0 → begins (drop i word) (drop i text) ≡ begins (drop (i + 1) word) (drop (i + 1) text)
-  unfolding begins
-  begins_on h e = rw (drop-cons word i 0 l, drop-cons text i 0 h, eq-eqb _ _ e, add-one)
+nothing : (b : Bool) → ◌≡◌ {A = ℕ} (cond b 0 0) 0
+nothing true = refl
+nothing false = refl
 
-  pub begins_off : i < length text → (get_or text i 0 ≡ get_or word i 0 → ⊥) → begins (drop i word) (drop i text) ≡ false
-  unfolding begins
-  begins_off h e = rw (drop-cons word i 0 l, drop-cons text i 0 h, ne_eqb _ _ e)
+pub bytes_odd : (s : List ℕ) → (length s % 2 ≡ 0 → ⊥) → byte_count s ≡ 0
+unfolding byte_count
+bytes_odd s h = rw (ne_eqb (length s % 2) 0 h) (nothing (all_hex s))
 
-pub begins_end : (i : ℕ) (word text : List ℕ) → length word ≤ i → begins (drop i word) (drop i text) ≡ true
-unfolding begins
-begins_end i word text l = rw (drop_of_length-le word l)
+pub bytes_each : (s : List ℕ) → true ≡ all_hex s → length s % 2 ≡ 0 → byte_count s ≡ length s / 2
+unfolding byte_count
+bytes_each s e h = rw (← e, eq-eqb (length s % 2) 0 h)

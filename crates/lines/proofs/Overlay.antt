@@ -1,14 +1,10 @@
 -- Laws of a list with others laid over it: piece by piece, from the front or from the back; and bytes from their digits.
 -- Assumes nothing.
-use mathlib.Core.Path.{◌≡◌, refl, sym, ap, ◌∙◌}
-use mathlib.Core.List.{List, [], ◌∷◌, ◌++◌}
-use Prim.Native.Nat.{ℕ, zero, suc, ◌+◌, ◌-◌, ◌*◌, ◌/◌, ◌%◌, ◌≤◌, ◌<◌}
-use native.Mathlib.Numerals.{add-one, add-two}
-use native.Mathlib.Nat.{add-zero, zero-add, add-suc, suc-add, mul-suc, sub-zero}
-use native.Mathlib.Omega.{arith}
-use lib.ListN.{length, get_or, set, drop, length-append, drop_of_length-le}
-use lib.Seq.{drop-cons, set_comm, sets, sets-eq}
-use Rattle.lines.specs.Digits.{laid, glyph, digits_of, byte_of, bytes, bytes_at}
+use Rattle.std.proofs.Common.{◌≡◌, refl, sym, ap, ◌∙◌, List, [], ◌∷◌, ◌++◌, append_assoc, ℕ, zero, suc, ◌+◌, ◌-◌, ◌/◌, ◌%◌, ◌≤◌, ◌<◌}
+use Rattle.std.proofs.Common.{length, get_or, set, drop, length-append, add-one, arith, add-zero, zero-add, add-suc, suc-add, drop-drop}
+use Rattle.std.proofs.Math.Seq.{set_comm, sets, sets-eq}
+use borrow.Rule.Slice.PartMut.{put_mid}
+use Rattle.lines.specs.Digits.{laid, glyph, digits_of, byte_of, bytes}
 
 -- ---- in two pieces
 
@@ -23,17 +19,6 @@ unfolding laid
 laid_set xs at [] j c h = refl
 laid_set xs at (b ∷ bs) j c h = rw (set_comm xs j at c b (λ e. omega arith)) (laid_set (set xs at b) (suc at) bs j c (omega arith))
 
--- ---- from the front
-
-pub word_on : (xs : List ℕ) (at i : ℕ) (w : List ℕ) → i < length w
-    → laid xs (at + i) (drop i w) ≡ laid (set xs (at + i) (get_or w i 0)) (at + (i + 1)) (drop (i + 1) w)
-unfolding laid
-word_on xs at i w l = rw (drop-cons w i 0 l, add-one, add-suc)
-
-pub laid_end : (xs : List ℕ) (at i : ℕ) (w : List ℕ) → length w ≤ i → laid xs at (drop i w) ≡ xs
-unfolding laid
-laid_end xs at i w l = rw (drop_of_length-le w l)
-
 -- ---- digits, from the back
 
 pub length_digits : (base w n : ℕ) → length (digits_of base w n) ≡ w
@@ -47,12 +32,13 @@ last_digit xs at base w n =
     rw (laid_append xs at (digits_of base w (n / base)) (glyph (n % base) ∷ []), length_digits base w (n / base))
     (sym (laid_set xs at (digits_of base w (n / base)) (at + w) (glyph (n % base)) (omega (arith, length_digits base w (n / base)))))
 
-pub digits_on : (xs : List ℕ) (at base w n g : ℕ) → (w ≡ 0 → ⊥) → g ≡ glyph (n % base)
-    → laid xs at (digits_of base w n) ≡ laid (set xs (at + (w - 1)) g) at (digits_of base (w - 1) (n / base))
-digits_on xs at base zero n g h e = absurd (h refl)
-digits_on xs at base (suc w) n g h e =
-    let less : suc w - 1 ≡ w = omega arith in
-    rw (less, e) (last_digit xs at base w n)
+-- one more, before a cell
+pub digits_on : (xs : List ℕ) (at cell base n g : ℕ) → at < cell → g ≡ glyph (n % base)
+    → laid xs at (digits_of base (cell - at) n) ≡ laid (set xs (cell - 1) g) at (digits_of base (cell - 1 - at) (n / base))
+digits_on xs at cell base n g l e =
+    let more : cell - at ≡ suc (cell - 1 - at) = omega arith in
+    let here : at + (cell - 1 - at) ≡ cell - 1 = omega arith in
+    rw (more, e) (last_digit xs at base (cell - 1 - at) n ∙ ap (λ (k : ℕ). laid (set xs k (glyph (n % base))) at (digits_of base (cell - 1 - at) (n / base))) here)
 
 pub digits_end : (xs : List ℕ) (at base w n : ℕ) → w ≡ 0 → laid xs at (digits_of base w n) ≡ xs
 unfolding laid digits_of
@@ -68,32 +54,32 @@ sets_laid xs at (b ∷ bs) = sets_laid (set xs at b) (suc at) bs
 pub laid_front : (xs bs : List ℕ) → length bs ≤ length xs → laid xs 0 bs ≡ bs ++ drop (length bs) xs
 laid_front xs bs h = sets_laid xs 0 bs ∙ sets-eq bs xs 0 (omega arith) ∙ ap (λ (n : ℕ). bs ++ drop n xs) (zero-add (length bs))
 
--- ---- bytes from their digits
+-- a part of a list written as a whole
+pub laid_mid : (xs : List ℕ) (at : ℕ) (bs : List ℕ) → at + length bs ≤ length xs → put_mid at (at + length bs - at) xs bs ≡ laid xs at bs
+laid_mid xs at bs h =
+    let long : at + length bs - at ≡ length bs = omega arith in
+    rw (sets_laid xs at bs, sets-eq bs xs at h, long, drop-drop (length bs) at xs, append_assoc)
 
-bytes_cons : (text : List ℕ) (from k : ℕ) → from + 1 < length text
-    → bytes_at text from (suc k) ≡ byte_of (get_or text from 0) (get_or text (from + 1) 0) ∷ bytes_at text (from + 2) k
-unfolding bytes_at bytes
-bytes_cons text from k h =
-    let one : from < length text = omega arith in
-    let two : suc from < length text = omega arith in
-    rw (mul-suc, add-two (2 * k), drop-cons text from 0 one, drop-cons text (suc from) 0 two, add-one, add-two from)
+-- ---- bytes from their digits, pair by pair
 
-module _ (xs : List ℕ) (at : ℕ) (text : List ℕ) (from count i : ℕ) where
-  pub bytes_start : laid xs at (bytes_at text from count) ≡ laid xs (at + 0) (bytes_at text (from + 0) (count - 0))
-  bytes_start = rw (add-zero at, add-zero from, sub-zero count)
+pub pair_off : {rest : List ℕ} (pair more : List ℕ) → rest ≡ pair ++ more → length pair ≡ 2 → length rest ≡ 2 + length more
+pair_off pair more e two = ap length e ∙ length-append pair more ∙ ap (λ (n : ℕ). n + length more) two
 
-  pub bytes_on : (b : ℕ) → b ≡ byte_of (get_or text (from + 2 * i) 0) (get_or text (from + 2 * i + 1) 0) → i < count → from + 2 * count ≤ length text
-      → laid xs (at + i) (bytes_at text (from + 2 * i) (count - i))
-      ≡ laid (set xs (at + i) b) (at + (i + 1)) (bytes_at text (from + 2 * (i + 1)) (count - (i + 1)))
+ended : (rest : List ℕ) → length rest < 2 → bytes rest ≡ []
+unfolding bytes
+ended [] h = refl
+ended (c ∷ []) h = refl
+ended (c ∷ d ∷ ds) h = absurd (omega arith)
+
+module _ (xs : List ℕ) (at : ℕ) (rest : List ℕ) where
+  pub bytes_on : (pair more : List ℕ) (b : ℕ) → length pair ≡ 2 → rest ≡ pair ++ more → b ≡ byte_of (get_or pair 0 0) (get_or pair 1 0)
+      → laid xs at (bytes rest) ≡ laid (set xs at b) (at + 1) (bytes more)
+  unfolding laid bytes
+  bytes_on [] more b l e q = absurd (omega arith)
+  bytes_on (h ∷ []) more b l e q = absurd (omega arith)
+  bytes_on (h ∷ g ∷ []) more b l e q = rw (e, q, add-one)
+  bytes_on (h ∷ g ∷ c ∷ cs) more b l e q = absurd (omega arith)
+
+  pub bytes_end : length rest < 2 → laid xs at (bytes rest) ≡ xs
   unfolding laid
-  bytes_on b e l h =
-      let left : count - i ≡ suc (count - (i + 1)) = omega arith in
-      let on : from + 2 * (i + 1) ≡ from + 2 * i + 2 = omega arith in
-      let next : at + (i + 1) ≡ suc (at + i) = omega arith in
-      rw (left, bytes_cons text (from + 2 * i) (count - (i + 1)) (omega arith), on, next, e)
-
-  pub bytes_end : count ≤ i → laid xs (at + i) (bytes_at text (from + 2 * i) (count - i)) ≡ xs
-  unfolding laid bytes_at bytes
-  bytes_end l =
-      let none : count - i ≡ 0 = omega arith in
-      rw none
+  bytes_end h = rw (ended rest h)

@@ -1,30 +1,8 @@
 -- A text is put together piece after piece, from a place of a buffer on.
 -- Assumes nothing.
-use mathlib.Core.Path.{◌≡◌, refl, sym, ◌∙◌, subst}
-use mathlib.Core.List.{List, [], ◌∷◌, ◌++◌}
-use Prim.Native.Nat.{ℕ, ◌+◌, ◌≤◌, ◌<◌}
-use native.Mathlib.Nat.{zero-add}
-use native.Mathlib.Numerals.{add-one}
-use native.Mathlib.Omega.{arith}
-use lib.ListN.{length, get_or, take, drop, length-append, drop_of_length-le}
-use lib.Seq.{drop-cons, take-append_seam}
-use borrow.Author.Tests.{eq-eqb, ne_eqb}
-use Rattle.lines.specs.Digits.{laid, digits_of, show_hex}
-use Rattle.lines.specs.Lines.{Part, places}
-use Rattle.lines.specs.Shown.{cell_line, changed, Puts, Front}
-use Rattle.lines.proofs.Overlay.{laid_append, laid_front}
-use Rattle.lines.proofs.Widths.{bounds}
--- A text is put together piece after piece, from a place of a buffer on.
--- Assumes nothing.
-use mathlib.Core.Path.{◌≡◌, refl, sym, ◌∙◌, subst}
-use mathlib.Core.List.{List, [], ◌∷◌, ◌++◌}
-use Prim.Native.Nat.{ℕ, ◌+◌, ◌≤◌, ◌<◌}
-use native.Mathlib.Nat.{zero-add}
-use native.Mathlib.Numerals.{add-one}
-use native.Mathlib.Omega.{arith}
-use lib.ListN.{length, get_or, take, drop, length-append, drop_of_length-le}
-use lib.Seq.{drop-cons, take-append_seam}
-use borrow.Author.Tests.{eq-eqb, ne_eqb}
+use Rattle.std.proofs.Common.{◌≡◌, refl, sym, ◌∙◌, subst, List, [], ◌∷◌, ◌++◌, ℕ, ◌+◌, ◌≤◌, zero-add, add-one, arith, length}
+use Rattle.std.proofs.Common.{take, drop, length-append, eq-eqb, ne_eqb, ◌⊎◌, ⊎_elim}
+use Rattle.std.proofs.Math.Seq.{take-append_seam}
 use Rattle.lines.specs.Digits.{laid, digits_of, show_hex}
 use Rattle.lines.specs.Lines.{Part, places}
 use Rattle.lines.specs.Shown.{cell_line, changed, Puts, Front}
@@ -72,36 +50,31 @@ paid {at = at} {past = past} {was = was} {text = text} {is = is} e owed h =
 
 -- ---- the cells that changed, one by one
 
--- those that are left from a cell on
-abbrev pub left : Part → List ℕ → List ℕ → ℕ → List ℕ
-left p was is cell = changed p cell (drop cell was) (drop cell is)
-
-module _ (p : Part) (was is : List ℕ) (cell : ℕ) (h : cell < length was) (l : cell < length is) where
-  left_same : get_or was cell 0 ≡ get_or is cell 0 → left p was is cell ≡ left p was is (cell + 1)
+module _ (p : Part) (cell b c : ℕ) (was_left is_left : List ℕ) {was is : List ℕ} (e : was ≡ b ∷ was_left) (f : is ≡ c ∷ is_left) where
+  changed_same : b ≡ c → changed p cell was is ≡ changed p (cell + 1) was_left is_left
   unfolding changed
-  left_same e = rw (drop-cons was cell 0 h, drop-cons is cell 0 l, eq-eqb _ _ e, add-one)
+  changed_same q = rw (e, f, eq-eqb b c q, add-one)
 
-  left_other : (get_or was cell 0 ≡ get_or is cell 0 → ⊥) → left p was is cell ≡ cell_line p cell (get_or is cell 0) ++ left p was is (cell + 1)
+  changed_other : (b ≡ c → ⊥) → changed p cell was is ≡ cell_line p cell c ++ changed p (cell + 1) was_left is_left
   unfolding changed
-  left_other e = rw (drop-cons was cell 0 h, drop-cons is cell 0 l, ne_eqb _ _ e, add-one)
+  changed_other q = rw (e, f, ne_eqb b c q, add-one)
 
   -- a cell that is as it was owes nothing
-  pub pass : {at past : ℕ} {old text out : List ℕ} → get_or was cell 0 ≡ get_or is cell 0
-      → Owes old at text (left p was is cell) out past → Owes old at text (left p was is (cell + 1)) out past
-  pass e o = rw (← left_same e) o
+  pub pass : {at past : ℕ} {old text out : List ℕ} → b ≡ c → Owes old at text (changed p cell was is) out past
+      → Owes old at text (changed p (cell + 1) was_left is_left) out past
+  pass q o = rw (← changed_same q) o
 
   -- one that is not owes its line
-  pub pay : {n at past end : ℕ} {old text out next : List ℕ} → (get_or was cell 0 ≡ get_or is cell 0 → ⊥) → Owes old at text (left p was is cell) out past
-      → Puts n out past (cell_line p cell (get_or is cell 0)) next end → Owes old at text (left p was is (cell + 1)) next end
-  pay {at = at} {past = past} {old = old} {text = text} {out = out} e o f = less (subst (λ (r : List ℕ). Owes old at text r out past) (left_other e) o) f
+  pub pay : {n at past end : ℕ} {old text out next : List ℕ} → (b ≡ c → ⊥) → Owes old at text (changed p cell was is) out past
+      → Puts n out past (cell_line p cell c) next end → Owes old at text (changed p (cell + 1) was_left is_left) next end
+  pay {at = at} {past = past} {old = old} {text = text} {out = out} q o f = less (subst (λ (r : List ℕ). Owes old at text r out past) (changed_other q) o) f
 
-none_left : (p : Part) (at : ℕ) (was : List ℕ) → changed p at was [] ≡ []
+-- nothing is left of the one list or of the other
+pub changed_end : (p : Part) (cell : ℕ) (was is : List ℕ) → (length was ≡ 0) ⊎ (length is ≡ 0) → changed p cell was is ≡ []
 unfolding changed
-none_left p at [] = refl
-none_left p at (b ∷ was) = refl
-
-pub left_end : (p : Part) (was is : List ℕ) (cell : ℕ) → length is ≤ cell → left p was is cell ≡ []
-left_end p was is cell l = rw (drop_of_length-le is l) (none_left p cell (drop cell was))
+changed_end p cell [] is h = refl
+changed_end p cell (b ∷ was) [] h = refl
+changed_end p cell (b ∷ was) (c ∷ is) h = absurd (⊎_elim (λ e. omega arith) (λ e. omega arith) h)
 
 -- ---- what has been put
 

@@ -1,9 +1,6 @@
 -- The sample of 01's last lines, read and printed by the rules; and lines that are `bad`, each for another reason. By computing.
 -- Assumes nothing.
-use mathlib.Core.Path.{◌≡◌, refl}
-use mathlib.Core.List.{List, [], ◌∷◌, ◌++◌, map}
-use Prim.Native.Nat.{ℕ}
-use lib.ListN.{replicate}
+use Rattle.std.proofs.Common.{◌≡◌, refl, List, [], ◌∷◌, ◌++◌, map, ℕ, replicate}
 use Rattle.lines.specs.Ascii.{ascii}
 use Rattle.lines.specs.Digits.{before, digit, glyph, numeral_from, numeral, up_to, digits_of, width_in, width, show_decimal, show_hex}
 use Rattle.lines.specs.Digits.{byte_of, bytes, all_hex, byte_count, begins, laid}

@@ -1,13 +1,8 @@
 -- Laws of widths: a decimal has one digit below 10, one more than a tenth's above, and at most 20 for 64 bits; and what bounds a part's addresses.
 -- Assumes nothing.
-use mathlib.Core.Path.{◌≡◌, refl, ap}
-use mathlib.Core.Bool.{cond}
-use mathlib.Core.Logic.{◌⊎◌, inl, inr, ⊎_elim}
-use Prim.Native.Nat.{ℕ, zero, suc, ◌/◌, ◌^◌, ◌≤◌, ◌<◌}
-use native.Mathlib.Nat.{pow-suc, div-lt_iff_lt-mul}
-use native.Mathlib.Omega.{arith}
-use lib.Dec.{ltb}
-use borrow.Author.Tests.{lt-ltb, le-ltb}
+use Rattle.std.proofs.Common.{◌≡◌, refl, ap, cond, ◌⊎◌, inl, inr, ⊎_elim, ℕ, zero, suc, ◌+◌, ◌*◌, ◌/◌, ◌^◌, ◌≤◌, ◌<◌, pow-suc}
+use Rattle.std.proofs.Common.{div-lt_iff_lt-mul, arith, ltb, lt-ltb, le-ltb}
+use Rattle.std.proofs.Math.Nat.{pow-succ'}
 use Rattle.lines.specs.Digits.{width, width_in}
 use Rattle.lines.specs.Lines.{Part, grom, pad, vdp, reg, places, size}
 
@@ -33,6 +28,18 @@ pub either : (n m : ℕ) → (n < m) ⊎ (m ≤ n)
 either n zero = inr (omega arith)
 either zero (suc m) = inl (omega arith)
 either (suc n) (suc m) = ⊎_elim (λ l. inl (omega arith)) (λ l. inr (omega arith)) (either n m)
+
+pow-pos : (k : ℕ) → 1 ≤ 10 ^ k
+pow-pos zero = omega arith
+pow-pos (suc k) = omega (arith, pow-pos k, pow-succ' 10 k)
+
+-- as many as the power of ten that it reaches
+pub width_is : (k n : ℕ) → 10 ^ k ≤ n → n < 10 * 10 ^ k → width n ≡ k + 1
+width_is zero n l h = omega (arith, width_one n (omega arith))
+width_is (suc k) n l h =
+    let least : 10 * 10 ^ k ≤ n = rw pow-succ' at l in
+    let most : n < 10 * (10 * 10 ^ k) = rw pow-succ' at h in
+    omega (arith, width_more n (omega (arith, pow-pos k)), width_is k (n / 10) (omega arith) (omega arith))
 
 -- fewer digits than a power of ten has
 pub width_to : (w n : ℕ) → n < 10 ^ suc w → width n ≤ suc w

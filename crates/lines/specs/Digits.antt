@@ -1,6 +1,5 @@
 -- Digits, the numbers and bytes that they say, and numbers as digits: "The answer line and `run` are decimal, the rest hex capitals".
-use Rattle.std.specs.Prelude.{Bool, true, false, cond, List, [], ◌∷◌, ◌++◌, ℕ, zero, suc, ◌+◌, ◌*◌, ◌/◌, ◌%◌, leb, ltb, eqb, length, get_or, set, take, drop}
-use Rattle.std.proofs.Math.Option.{Option, none, some}
+use Rattle.std.specs.Prelude.{Option, Some, None, Bool, true, false, cond, List, [], ◌∷◌, ◌++◌, ℕ, zero, suc, ◌+◌, ◌*◌, ◌/◌, ◌%◌, leb, ltb, eqb, length, get_or, set}
 use Rattle.lines.specs.Ascii.{ascii}
 
 -- "hex capitals"
@@ -22,20 +21,20 @@ glyph n = get_or capitals n 0
 
 -- ---- numbers
 
--- the number that digits say after others that said v, and `none` where one is no digit of the base
+-- the number that digits say after others that said v, and `None` where one is no digit of the base
 unfoldable pub numeral_from : ℕ → ℕ → List ℕ → Option ℕ
-numeral_from base v [] = some v
-numeral_from base v (c ∷ cs) = cond (ltb (digit c) base) (numeral_from base (v * base + digit c) cs) none
+numeral_from base v [] = Some v
+numeral_from base v (c ∷ cs) = cond (ltb (digit c) base) (numeral_from base (v * base + digit c) cs) None
 
 -- one digit or more
 unfoldable pub numeral : ℕ → List ℕ → Option ℕ
-numeral base [] = none
+numeral base [] = None
 numeral base (c ∷ cs) = numeral_from base 0 (c ∷ cs)
 
 -- a number no greater than a limit
 unfoldable pub up_to : ℕ → Option ℕ → Option ℕ
-up_to limit none = none
-up_to limit (some v) = cond (leb v limit) (some v) none
+up_to limit None = None
+up_to limit (Some v) = cond (leb v limit) (Some v) None
 
 -- the last digits of a number, so many
 unfoldable pub digits_of : ℕ → ℕ → ℕ → List ℕ
@@ -74,10 +73,6 @@ all_hex (c ∷ cs) = cond (ltb (digit c) 16) (all_hex cs) false
 -- how many bytes: 0 where a character is no digit, or one digit is left over
 unfoldable pub byte_count : List ℕ → ℕ
 byte_count s = cond (all_hex s) (cond (eqb (length s % 2) 0) (length s / 2) 0) 0
-
--- the bytes whose digits stand in a text from a place on
-unfoldable pub bytes_at : List ℕ → ℕ → ℕ → List ℕ
-bytes_at text from count = bytes (take (2 * count) (drop from text))
 
 -- ---- places
 

@@ -1,6 +1,5 @@
 -- What a line of the input says: "The program reads standard input, tabbed lines: `grom`, `pad`, `vdp`, `reg`, each with address and hex bytes, `pc`, `run`."
-use Rattle.std.specs.Prelude.{cond, List, ℕ, suc, ◌+◌, leb, eqb, length, get_or, take, drop}
-use Rattle.std.proofs.Math.Option.{Option, none, some}
+use Rattle.std.specs.Prelude.{Option, Some, None, cond, List, ℕ, suc, ◌+◌, leb, eqb, length, get_or, take, drop}
 use Rattle.lines.specs.Ascii.{ascii}
 use Rattle.lines.specs.Digits.{begins, numeral, up_to, byte_count, bytes}
 
@@ -48,24 +47,24 @@ size reg = 8
 
 -- an address and the digits of its bytes: one byte or more, none past the part's end
 unfoldable pub placed : Part → Option ℕ → List ℕ → Line
-placed p none s = bad
-placed p (some at) s = cond (eqb (byte_count s) 0) bad (cond (leb (at + byte_count s) (size p)) (sets p at (bytes s)) bad)
+placed p None s = bad
+placed p (Some at) s = cond (eqb (byte_count s) 0) bad (cond (leb (at + byte_count s) (size p)) (sets p at (bytes s)) bad)
 
 -- the address, a tab, the bytes
 unfoldable pub set_line : Part → List ℕ → Line
 set_line p s = cond (eqb (get_or s (places p) 0) tab) (placed p (numeral 16 (take (places p) s)) (drop (suc (places p)) s)) bad
 
 unfoldable pub jumping : Option ℕ → Line
-jumping none = bad
-jumping (some n) = jumps n
+jumping None = bad
+jumping (Some n) = jumps n
 
 -- a program address of 16 bits, in four digits
 unfoldable pub pc_line : List ℕ → Line
 pc_line s = cond (eqb (length s) 4) (jumping (up_to 65535 (numeral 16 s))) bad
 
 unfoldable pub running : Option ℕ → Line
-running none = bad
-running (some n) = runs n
+running None = bad
+running (Some n) = runs n
 
 -- a decimal of 32 bits
 unfoldable pub run_line : List ℕ → Line

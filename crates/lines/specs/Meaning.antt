@@ -1,19 +1,12 @@
--- What the code's numbers, parts and lines say, in the words of the rules.
-use Rattle.std.specs.Prelude.{◌≡◌, List, ℕ, ◌+◌, ◌*◌, ◌≤◌, length}
-use Rattle.std.proofs.Math.Option.{Option, none, some}
-use Rattle.lines.specs.Digits.{bytes_at}
+-- What the code's parts and lines say, in the words of the rules.
+use Rattle.std.specs.Prelude.{◌≡◌, Option, Some, None, List, ℕ, ◌+◌, ◌-◌, ◌*◌, ◌/◌, ◌≤◌, length, drop}
+use Rattle.lines.specs.Digits.{bytes}
 use Rattle.lines.specs.Lines as rules
-use Rattle.lines.specs.declared.digits.Number.{Number}
-use Rattle.lines.specs.declared.digits.Number.TheVariants.{Is, Refused}
 use Rattle.lines.specs.declared.parts.Part.{Part}
 use Rattle.lines.specs.declared.parts.Part.TheVariants as part
 use Rattle.lines.specs.declared.read.Bytes.{Bytes}
 use Rattle.lines.specs.declared.read.Line.{Line}
-use Rattle.lines.specs.declared.read.Line.TheVariants.{Grom, Pad, Vdp, Reg, Pc, Run, Bad}
-
-abbrev pub number_of : Number → Option ℕ
-number_of (Is n) = some n
-number_of Refused = none
+use Rattle.lines.specs.declared.read.Line.TheVariants.{Set, Pc, Run}
 
 abbrev pub part_of : Part → rules.Part
 part_of part.Grom = rules.grom
@@ -21,42 +14,35 @@ part_of part.Pad = rules.pad
 part_of part.Vdp = rules.vdp
 part_of part.Reg = rules.reg
 
--- the line of the code that gives a part bytes
-abbrev pub line_for : Part → Bytes → Line
-line_for part.Grom b = Grom b
-line_for part.Pad b = Pad b
-line_for part.Vdp b = Vdp b
-line_for part.Reg b = Reg b
+-- a line's bytes are those that its digits say
+abbrev pub told : Line → rules.Line
+told (Set p b) = rules.sets (part_of p) b.at (bytes b.digits.now)
+told (Pc n) = rules.jumps n
+told (Run n) = rules.runs n
 
--- a line's bytes are those whose digits stand in its text
-abbrev pub given : rules.Part → List ℕ → Bytes → rules.Line
-given p text b = rules.sets p b.at (bytes_at text b.from b.count)
+-- a text that is no line is `bad`
+abbrev pub told_of : Option Line → rules.Line
+told_of None = rules.bad
+told_of (Some line) = told line
 
-abbrev pub told : List ℕ → Line → rules.Line
-told text (Grom b) = given rules.grom text b
-told text (Pad b) = given rules.pad text b
-told text (Vdp b) = given rules.vdp text b
-told text (Reg b) = given rules.reg text b
-told text (Pc n) = rules.jumps n
-told text (Run n) = rules.runs n
-told text Bad = rules.bad
+-- how many bytes the digits say
+abbrev pub count : Bytes → ℕ
+count b = length b.digits.now / 2
 
--- the digits are the end of the text, and the bytes stand within the part
+-- the digits are the end of the text, two for each byte, and the bytes stand within the part
 pub record Within (size : ℕ) (text : List ℕ) (b : Bytes) : Type 0 where
-  pub digits : b.from + 2 * b.count ≡ length text
-  pub bytes : b.at + b.count ≤ size
-  pub some : 1 ≤ b.count
+  pub end : drop (length text - length b.digits.now) text ≡ b.digits.now
+  pub digits : 2 * count b ≡ length b.digits.now
+  pub bytes : b.at + count b ≤ size
+  pub some : 1 ≤ count b
 
-abbrev pub Reaches : List ℕ → Line → Type 0
-Reaches text (Grom b) = Within (rules.size rules.grom) text b
-Reaches text (Pad b) = Within (rules.size rules.pad) text b
-Reaches text (Vdp b) = Within (rules.size rules.vdp) text b
-Reaches text (Reg b) = Within (rules.size rules.reg) text b
-Reaches text (Pc n) = Unit {0}
-Reaches text (Run n) = Unit {0}
-Reaches text Bad = Unit {0}
+abbrev pub Reaches : List ℕ → Option Line → Type 0
+Reaches text (Some (Set p b)) = Within (rules.size (part_of p)) text b
+Reaches text (Some (Pc n)) = Unit {0}
+Reaches text (Some (Run n)) = Unit {0}
+Reaches text None = Unit {0}
 
 -- a line of the code says what the text says, and its bytes can be had
-pub record Says (text : List ℕ) (r : Line) (line : rules.Line) : Type 0 where
-  pub means : told text r ≡ line
+pub record Says (text : List ℕ) (r : Option Line) (line : rules.Line) : Type 0 where
+  pub means : told_of r ≡ line
   pub within : Reaches text r

@@ -3,7 +3,7 @@ ghost use Rattle.std.specs.Prelude.{◌≡◌};
 ghost use Rattle.lines.specs.Lines;
 ghost use Rattle.lines.specs.Meaning.{part_of};
 
-#[derive(Clone, Copy)]
+#[derive(Clone, Copy, PartialEq, Eq, Debug)]
 pub enum Part {
     Grom,
     Pad,
@@ -11,26 +11,38 @@ pub enum Part {
     Reg,
 }
 
-// How many digits an address has.
-pub fn places(part: Part) -> usize
-    ensures { result ≡ Lines.places (part_of part) }
-{
-    match part {
-        Part::Grom => 4,
-        Part::Pad => 2,
-        Part::Vdp => 4,
-        Part::Reg => 2,
+impl Part {
+    // Its keyword and a tab.
+    pub fn opening(self) -> &'static [u8]
+        ensures { result.now ≡ Lines.opening (part_of self) }
+    {
+        match self {
+            Part::Grom => b"grom\t",
+            Part::Pad => b"pad\t",
+            Part::Vdp => b"vdp\t",
+            Part::Reg => b"reg\t",
+        }
     }
-}
 
-// How many bytes it has.
-pub fn size(part: Part) -> usize
-    ensures { result ≡ Lines.size (part_of part) }
-{
-    match part {
-        Part::Grom => 32768,
-        Part::Pad => 256,
-        Part::Vdp => 16384,
-        Part::Reg => 8,
+    // How many digits an address has.
+    pub fn places(self) -> usize
+        ensures { result ≡ Lines.places (part_of self) }
+    {
+        match self {
+            Part::Grom | Part::Vdp => 4,
+            Part::Pad | Part::Reg => 2,
+        }
+    }
+
+    // How many bytes it has.
+    pub fn size(self) -> usize
+        ensures { result ≡ Lines.size (part_of self) }
+    {
+        match self {
+            Part::Grom => 32768,
+            Part::Pad => 256,
+            Part::Vdp => 16384,
+            Part::Reg => 8,
+        }
     }
 }

@@ -1,26 +1,23 @@
 // The lines that the program prints, each put at a place of a lent buffer: the answer is the place past it.
+// No struct holds both: that a lent slice keeps its length every caller knows; of a slice in a field each contract would have to say it.
+// No `Display`: nothing is allocated, and `Prints` says each byte of the buffer and that the others stay.
 ghost use Rattle.std.specs.Prelude.{◌≡◌, ◌+◌, ◌*◌, ◌≤◌, length};
 ghost use Rattle.lines.specs.Digits;
 ghost use Rattle.lines.specs.Digits.{digits_of, show_decimal};
-ghost use Rattle.lines.specs.Lines.{opening};
 ghost use Rattle.lines.specs.Shown;
 ghost use Rattle.lines.specs.Shown.{Prints, changed};
 ghost use Rattle.lines.specs.Meaning.{part_of};
 
 use crate::digits::glyph;
-use crate::parts::{Part, places};
+use crate::parts::Part;
 
 pub fn put_word(out: &mut [u8], at: usize, word: &[u8]) -> usize
     requires { at + length word.now ≤ length out.old }
     ensures { Prints (length word.now) word.now out at result }
 {
-    let mut i = 0;
-    while i < word.len() {
-        let cell = at + i;
-        out[cell] = word[i];
-        i += 1;
-    }
-    at + i
+    let end = at + word.len();
+    out[at..end].copy_from_slice(word);
+    end
 }
 
 // The last `width` digits of a number, from the last one on.
@@ -28,29 +25,24 @@ pub fn put_digits(out: &mut [u8], at: usize, base: u64, width: usize, n: u64) ->
     requires { (1 ≤ base) × (base ≤ 16) × (at + width ≤ length out.old) }
     ensures { Prints width (digits_of base width n) out at result }
 {
-    let mut left = width;
+    let end = at + width;
     let mut m = n;
-    while left != 0 {
-        left -= 1;
-        let cell = at + left;
+    for cell in (at..end).rev() {
         let last = (m % base) as usize;
         out[cell] = glyph(last);
         m /= base;
     }
-    at + width
+    end
 }
 
 // How many digits a decimal has.
 fn width_of(n: u64) -> usize
     ensures { (result ≡ Digits.width n) × (result ≤ 20) }
 {
-    let mut k = 1;
-    let mut m = n;
-    while 10 <= m {
-        m /= 10;
-        k += 1;
+    match n.checked_ilog10() {
+        Some(k) => k as usize + 1,
+        None => 1,
     }
-    k
 }
 
 pub fn put_decimal(out: &mut [u8], at: usize, n: u64) -> usize
@@ -61,28 +53,15 @@ pub fn put_decimal(out: &mut [u8], at: usize, n: u64) -> usize
     put_digits(out, at, 10, width, n)
 }
 
-// A part's keyword and a tab.
-fn put_opening(out: &mut [u8], at: usize, part: Part) -> usize
-    requires { at + 5 ≤ length out.old }
-    ensures { Prints 5 (opening (part_of part)) out at result }
-{
-    match part {
-        Part::Grom => put_word(out, at, b"grom\t"),
-        Part::Pad => put_word(out, at, b"pad\t"),
-        Part::Vdp => put_word(out, at, b"vdp\t"),
-        Part::Reg => put_word(out, at, b"reg\t"),
-    }
-}
-
 // The answer of a run, its steps and its stores.
 fn put_counts(out: &mut [u8], at: usize, answer: u8, steps: u32, stores: u64) -> usize
     requires { at + 69 ≤ length out.old }
     ensures { Prints 69 (Shown.counts_text answer steps stores) out at result }
 {
     let a = put_word(out, at, b"answer\t");
-    let b = put_decimal(out, a, answer as u64);
+    let b = put_decimal(out, a, u64::from(answer));
     let c = put_word(out, b, b"\t");
-    let d = put_decimal(out, c, steps as u64);
+    let d = put_decimal(out, c, u64::from(steps));
     let e = put_word(out, d, b"\t");
     put_decimal(out, e, stores)
 }
@@ -101,7 +80,7 @@ pub fn put_answer(
 {
     let a = put_counts(out, at, answer, steps, stores);
     let b = put_word(out, a, b"\t");
-    let c = put_digits(out, b, 16, 4, address as u64);
+    let c = put_digits(out, b, 16, 4, u64::from(address));
     put_word(out, c, b"\n")
 }
 
@@ -111,7 +90,7 @@ pub fn put_pc(out: &mut [u8], at: usize, pc: u16) -> usize
     ensures { Prints 8 (Shown.pc_line pc) out at result }
 {
     let a = put_word(out, at, b"pc\t");
-    let b = put_digits(out, a, 16, 4, pc as u64);
+    let b = put_digits(out, a, 16, 4, u64::from(pc));
     put_word(out, b, b"\n")
 }
 
@@ -120,11 +99,10 @@ pub fn put_cell(out: &mut [u8], at: usize, part: Part, cell: u16, byte: u8) -> u
     requires { at + 13 ≤ length out.old }
     ensures { Prints 13 (Shown.cell_line (part_of part) cell byte) out at result }
 {
-    let a = put_opening(out, at, part);
-    let digits = places(part);
-    let b = put_digits(out, a, 16, digits, cell as u64);
+    let a = put_word(out, at, part.opening());
+    let b = put_digits(out, a, 16, part.places(), u64::from(cell));
     let c = put_word(out, b, b"\t");
-    let d = put_digits(out, c, 16, 2, byte as u64);
+    let d = put_digits(out, c, 16, 2, u64::from(byte));
     put_word(out, d, b"\n")
 }
 
@@ -134,13 +112,10 @@ pub fn put_changed(out: &mut [u8], from: usize, part: Part, was: &[u8], is: &[u8
     ensures { Prints (13 * length is.now) (changed (part_of part) 0 was.now is.now) out from result }
 {
     let mut past = from;
-    let mut cell: u16 = 0;
-    while (cell as usize) < is.len() {
-        let at = cell;
-        let i = at as usize;
-        cell += 1;
-        if was[i] != is[i] {
-            past = put_cell(out, past, part, at, is[i]);
+    for (i, (old, new)) in was.iter().zip(is).enumerate() {
+        if old != new {
+            let cell = i as u16;
+            past = put_cell(out, past, part, cell, *new);
         }
     }
     past

@@ -1,161 +1,98 @@
 // What a line of the input says.
-ghost use Rattle.std.specs.Prelude.{◌≡◌, List, ℕ, ◌+◌, ◌*◌, ◌≤◌, length, drop};
-ghost use Rattle.lines.specs.Digits.{begins, bytes_at, laid};
+ghost use Rattle.std.specs.Prelude.{◌≡◌, ◌+◌, ◌/◌, ◌≤◌, length};
+ghost use Rattle.lines.specs.Digits.{bytes, laid};
 ghost use Rattle.lines.specs.Lines;
-ghost use Rattle.lines.specs.Lines.{set_line, go_line, line_of};
-ghost use Rattle.lines.specs.Meaning.{part_of, line_for, Says};
+ghost use Rattle.lines.specs.Lines.{set_line, jumping, running, go_line, line_of};
+ghost use Rattle.lines.specs.Meaning.{part_of, Says};
 
-use crate::digits::{Number, byte_of, count_bytes, number_of};
-use crate::parts::{Part, places, size};
+use crate::digits::{byte_of, count_bytes, number_of};
+use crate::parts::Part;
 
-// Bytes for a part: the address, where in the text the first digit stands, and how many bytes.
+// Bytes for a part: the address, and the digits, two for each byte.
 #[derive(Clone, Copy)]
-pub struct Bytes {
+pub struct Bytes<'a> {
     pub at: u16,
-    pub from: usize,
-    pub count: usize,
+    pub digits: &'a [u8],
 }
 
 #[derive(Clone, Copy)]
-pub enum Line {
-    Grom(Bytes),
-    Pad(Bytes),
-    Vdp(Bytes),
-    Reg(Bytes),
+pub enum Line<'a> {
+    Set(Part, Bytes<'a>),
     Pc(u16),
     Run(u32),
-    Bad,
 }
 
-// Whether the text begins with a word.
-fn starts(text: &[u8], word: &[u8]) -> bool
-    ensures { result ≡ begins word.now text.now }
-{
-    let mut i = 0;
-    while i < word.len() {
-        if text.len() <= i {
-            return false;
+impl Bytes<'_> {
+    // The bytes, put into their part.
+    pub fn lay(self, part: &mut [u8])
+        requires { self.at + length self.digits.now / 2 ≤ length part.old }
+        ensures { part.new ≡ laid part.old self.entry.at (bytes self.entry.digits.now) }
+    {
+        let first = usize::from(self.at);
+        for (i, pair) in self.digits.chunks_exact(2).enumerate() {
+            let cell = first + i;
+            part[cell] = byte_of(pair[0], pair[1]);
         }
-        if text[i] != word[i] {
-            return false;
-        }
-        i += 1;
-    }
-    true
-}
-
-fn bytes_for(part: Part, b: Bytes) -> Line
-    ensures { result ≡ line_for part b }
-{
-    match part {
-        Part::Grom => Line::Grom(b),
-        Part::Pad => Line::Pad(b),
-        Part::Vdp => Line::Vdp(b),
-        Part::Reg => Line::Reg(b),
     }
 }
 
 // A line of bytes, from its address on.
-fn set_line(part: Part, text: &[u8], start: usize) -> Line
-    requires { start ≤ length text.now }
-    ensures { Says text.now result (set_line (part_of part) (drop start text.now)) }
+fn set_line(part: Part, text: &[u8]) -> Option<Line<'_>>
+    ensures { Says text.now result (set_line (part_of part) text.now) }
 {
-    let rest = text.len() - start;
-    let digits = places(part);
-    if rest <= digits {
-        return Line::Bad;
+    let places = part.places();
+    if text.len() <= places || text[places] != b'\t' {
+        return None;
     }
-    let tab = start + digits;
-    if text[tab] != 9 {
-        return Line::Bad;
-    }
-    let from = tab + 1;
-    let Number::Is(n) = number_of(&text[start..tab], 16, 65535) else {
-        return Line::Bad;
-    };
-    let count = count_bytes(&text[from..]);
-    if count == 0 {
-        return Line::Bad;
-    }
-    let first = n as usize;
-    let end = first + count;
-    if size(part) < end {
-        return Line::Bad;
+    let n = number_of(&text[..places], 16, 65535)?;
+    let digits = &text[places + 1..];
+    let count = count_bytes(digits)?;
+    let end = n as usize + count;
+    if part.size() < end {
+        return None;
     }
     let at = n as u16;
-    bytes_for(part, Bytes { at, from, count })
+    Some(Line::Set(part, Bytes { at, digits }))
 }
 
-fn pc_line(s: &[u8]) -> Line
-    ensures { (t : List ℕ) → Says t result (Lines.pc_line s.now) }
+fn pc_line(s: &[u8]) -> Option<u16>
+    ensures { jumping result ≡ Lines.pc_line s.now }
 {
     if s.len() != 4 {
-        return Line::Bad;
+        return None;
     }
-    match number_of(s, 16, 65535) {
-        Number::Is(n) => {
-            let pc = n as u16;
-            Line::Pc(pc)
-        }
-        Number::Refused => Line::Bad,
-    }
+    let n = number_of(s, 16, 65535)?;
+    let pc = n as u16;
+    Some(pc)
 }
 
-fn run_line(s: &[u8]) -> Line
-    ensures { (t : List ℕ) → Says t result (Lines.run_line s.now) }
+fn run_line(s: &[u8]) -> Option<u32>
+    ensures { running result ≡ Lines.run_line s.now }
 {
-    match number_of(s, 10, 4294967295) {
-        Number::Is(n) => {
-            let steps = n as u32;
-            Line::Run(steps)
-        }
-        Number::Refused => Line::Bad,
-    }
+    let n = number_of(s, 10, 4294967295)?;
+    let steps = n as u32;
+    Some(steps)
 }
 
 // A line that gives no part bytes.
-fn go_line(text: &[u8]) -> Line
+fn go_line(text: &[u8]) -> Option<Line<'_>>
     ensures { Says text.now result (go_line text.now) }
 {
-    if starts(text, b"pc\t") {
-        return pc_line(&text[3..]);
+    if let Some(rest) = text.strip_prefix(b"pc\t") {
+        return Some(Line::Pc(pc_line(rest)?));
     }
-    if starts(text, b"run\t") {
-        return run_line(&text[4..]);
-    }
-    Line::Bad
+    let rest = text.strip_prefix(b"run\t")?;
+    Some(Line::Run(run_line(rest)?))
 }
 
-// A whole line, without its line feed.
-pub fn read_line(text: &[u8]) -> Line
+// A whole line, without its line feed: `None` where it says nothing.
+pub fn read_line(text: &[u8]) -> Option<Line<'_>>
     ensures { Says text.now result (line_of text.now) }
 {
-    if starts(text, b"grom\t") {
-        return set_line(Part::Grom, text, 5);
-    }
-    if starts(text, b"pad\t") {
-        return set_line(Part::Pad, text, 4);
-    }
-    if starts(text, b"vdp\t") {
-        return set_line(Part::Vdp, text, 4);
-    }
-    if starts(text, b"reg\t") {
-        return set_line(Part::Reg, text, 4);
+    for part in [Part::Grom, Part::Pad, Part::Vdp, Part::Reg] {
+        if let Some(rest) = text.strip_prefix(part.opening()) {
+            return set_line(part, rest);
+        }
     }
     go_line(text)
-}
-
-// The bytes that a line names, put into their part.
-pub fn set_bytes(text: &[u8], from: usize, count: usize, part: &mut [u8], at: usize)
-    requires { (from + 2 * count ≤ length text.now) × (at + count ≤ length part.old) }
-    ensures { part.new ≡ laid part.old at (bytes_at text.now from count) }
-{
-    let mut i = 0;
-    while i < count {
-        let high = from + 2 * i;
-        let low = high + 1;
-        let cell = at + i;
-        part[cell] = byte_of(text[high], text[low]);
-        i += 1;
-    }
 }

@@ -1,57 +1,33 @@
 -- Laws of the lines that a dump is shown by.
 -- Assumes nothing.
-use mathlib.Core.Path.{◌≡◌, sym, ap, ◌∙◌, subst}
-use mathlib.Core.Bool.{Bool, true, false}
-use mathlib.Core.List.{List, [], ◌++◌}
-use Prim.Native.Nat.{ℕ, suc, ◌+◌, ◌-◌, ◌*◌, ◌≤◌, ◌<◌}
-use native.Mathlib.Omega.{arith}
-use lib.ListN.{length, take, drop}
-use lib.Seq.{drop-drop}
+use Rattle.std.proofs.Common.{◌≡◌, sym, ap, ◌∙◌, subst, Bool, true, false, cond, List, [], ◌++◌, ℕ, suc, ◌+◌, ◌/◌, arith, length, length-append}
+use Rattle.std.proofs.Math.Seq.{take_at, drop_at}
 use Rattle.lines.specs.Shown.{Puts, Front}
 use Rattle.lines.proofs.Printing.{Owes, less}
-use borrow.Author.Tests.{eq-eqb, ne_eqb}
-use Rattle.intelhex.specs.Dump.{idle, groups, read_answer, read_image}
-use Rattle.intelhex.specs.declared.dump.Read.{Read}
+use Rattle.std.proofs.lemmas.Bool.{eq-eqb, ne_eqb}
+use Rattle.intelhex.specs.Dump.{Read, idle, groups, read_answer, read_image}
 use Rattle.rig.specs.Rig.{grom_line, grom_lines, refusal, shown}
 
--- those that are left from the k-th row on
-abbrev pub left : List ℕ → ℕ → List ℕ
-left bs k = grom_lines (2048 - k) (k * 16) (drop (k * 16) bs)
-
-span : (k : ℕ) → k * 16 + 16 - k * 16 ≡ 16
-span k = omega arith
-
-module _ (bs : List ℕ) (k : ℕ) (l : k < 2048) (b : Bool) (e : b ≡ idle (take (k * 16 + 16 - k * 16) (drop (k * 16) bs))) where
-  idle_is : idle (take 16 (drop (k * 16) bs)) ≡ b
-  idle_is = sym (rw (span k) at e)
-
-  one_less : 2048 - k ≡ suc (2048 - (k + 1))
-  one_less = omega arith
-
-  next : k * 16 + 16 ≡ (k + 1) * 16
-  next = omega arith
-
-  -- a row of zeros owes nothing
-  pub pass : {at past : ℕ} {old text out : List ℕ} → b ≡ true → Owes old at text (left bs k) out past → Owes old at text (left bs (k + 1)) out past
+-- a row of 16 bytes, and what is left after it
+module _ (at : ℕ) (bs more : List ℕ) {rest : List ℕ} (l : length bs ≡ 16) (e : rest ≡ bs ++ more) where
+  cons : grom_lines (length rest / 16) at rest ≡ cond (idle bs) [] (grom_line at bs) ++ grom_lines (length more / 16) (at + 16) more
   unfolding grom_lines
-  pass {at} {past} {old} {text} {out} t o =
-      let same : left bs k ≡ left bs (k + 1) = rw (one_less, idle_is, t, drop-drop 16 (k * 16) bs, next) in
-      subst (λ (r : List ℕ). Owes old at text r out past) same o
+  cons =
+      let left : length rest / 16 ≡ suc (length more / 16) = omega (arith, l, ap length e, length-append bs more) in
+      rw (left, e, take_at bs more 16 l, drop_at bs more 16 l)
 
-  -- any other owes its line
-  pub pay : {n at past end : ℕ} {old text out on : List ℕ} → b ≡ false → Owes old at text (left bs k) out past
-      → Puts n out past (grom_line (k * 16) (take (k * 16 + 16 - k * 16) (drop (k * 16) bs))) on end → Owes old at text (left bs (k + 1)) on end
-  unfolding grom_lines
-  pay {n} {at} {past} {end} {old} {text} {out} {on} f o p =
-      let same : left bs k ≡ grom_line (k * 16) (take 16 (drop (k * 16) bs)) ++ left bs (k + 1) = rw (one_less, idle_is, f, drop-drop 16 (k * 16) bs, next) in
-      less (subst (λ (r : List ℕ). Owes old at text r out past) same o)
-      (subst (λ (m : ℕ). Puts n out past (grom_line (k * 16) (take m (drop (k * 16) bs))) on end) (span k) p)
+  module _ {b : Bool} (i : b ≡ idle bs) {from past : ℕ} {old text out : List ℕ} (o : Owes old from text (grom_lines (length rest / 16) at rest) out past) where
+    -- one of zeros owes nothing
+    pub pass : b ≡ true → Owes old from text (grom_lines (length more / 16) (at + 16) more) out past
+    pass t = subst (λ (r : List ℕ). Owes old from text r out past) (cons ∙ rw (← i, t)) o
 
-pub all_shown : (bs : List ℕ) (k : ℕ) → 2048 ≤ k → left bs k ≡ []
+    -- any other owes its line
+    pub pay : {n end : ℕ} {on : List ℕ} → b ≡ false → Puts n out past (grom_line at bs) on end → Owes old from text (grom_lines (length more / 16) (at + 16) more) on end
+    pay f p = less (subst (λ (r : List ℕ). Owes old from text r out past) (cons ∙ rw (← i, f)) o) p
+
+pub all_shown : (n at : ℕ) (rest : List ℕ) → n ≡ 0 → grom_lines n at rest ≡ []
 unfolding grom_lines
-all_shown bs k l =
-    let none : 2048 - k ≡ 0 = omega arith in
-    rw none
+all_shown n at rest e = rw e
 
 -- ---- the whole
 

@@ -1,66 +1,69 @@
 // The image that the `grom` lines of a bench file give, and its dump.
-ghost use Rattle.std.specs.Prelude.{◌≡◌, ◌+◌, ◌≤◌, ◌<◌, length};
+ghost use Rattle.std.specs.Prelude.{◌≡◌, MatchOption, []};
 ghost use Rattle.lines.specs.Shown.{Front};
 ghost use Rattle.desk.specs.Desk.{cut};
-ghost use Rattle.rig.specs.Meaning.{Took, Gathers};
+ghost use Rattle.rig.specs.Meaning.{Splits, Took, Gathers};
 ghost use Rattle.rig.specs.Rig;
 
-use desk::input::find;
 use desk::obey::line_of;
 use intelhex::dump::write_hex;
-use intelhex::flags::clear;
+use lines::parts::Part;
 use lines::print::put_bad;
-use lines::read::{Line, set_bytes};
+use lines::read::Line;
 
-// Whether a line says something; the bytes of a `grom` line are laid over the image.
-fn take_line(line: &[u8], image: &mut [u8; 32768]) -> bool
+// A line that says nothing, by its number from 1.
+#[derive(Clone, Copy)]
+struct BadLine {
+    number: u64,
+}
+
+// The first line of a text, without its line feed, and the text after it.
+fn first_line(text: &[u8]) -> Option<(&[u8], &[u8])>
+    ensures { MatchOption result (cut text.now ≡ []) (λ p. Splits text.now p.0.now p.1.now) }
+{
+    if text.is_empty() {
+        return None;
+    }
+    let Some(end) = text.iter().position(|c| *c == b'\n') else {
+        return Some((text, &[]));
+    };
+    Some((&text[..end], &text[end + 1..]))
+}
+
+// The bytes of a `grom` line, laid over the image; `None` where a line says nothing.
+fn take_line(line: &[u8], image: &mut [u8; 32768]) -> Option<()>
     ensures { Took line image result }
 {
-    let said = line_of(line);
-    match said {
-        Line::Grom(b) => {
-            let at = b.at as usize;
-            set_bytes(line, b.from, b.count, image, at);
-            true
-        }
-        Line::Bad => false,
-        Line::Pad(b) => true,
-        Line::Vdp(b) => true,
-        Line::Reg(b) => true,
-        Line::Pc(n) => true,
-        Line::Run(n) => true,
+    if let Line::Set(Part::Grom, bytes) = line_of(line)? {
+        bytes.lay(image);
     }
+    Some(())
 }
 
-// All lines of a text: 0, or the number of the first that says nothing.
-fn gather(text: &[u8], image: &mut [u8; 32768]) -> u64
+// All lines of a text, up to the first that says nothing.
+fn gather(text: &[u8], image: &mut [u8; 32768]) -> Result<(), BadLine>
     ensures { Gathers text image result }
 {
-    let n = text.len();
-    let mut at = 0;
-    let mut number: u64 = 0;
-    while at < n {
-        let end = find(text, at, n, b'\n');
+    let mut left = text;
+    let mut number = 0;
+    while let Some((line, rest)) = first_line(left) {
         number += 1;
-        if !take_line(&text[at..end], image) {
-            return number;
-        }
-        if end == n {
-            return 0;
-        }
-        at = end + 1;
+        let Some(()) = take_line(line, image) else {
+            return Err(BadLine { number });
+        };
+        left = rest;
     }
-    0
+    Ok(())
 }
 
-// A bench file as a dump; or the number of a line that says nothing, as the bench prints it.
+// A bench file as a dump, or the number of a line that says nothing, as the bench prints it: so many bytes at the front of a lent buffer.
 pub fn dump(text: &[u8], image: &mut [u8; 32768], out: &mut [u8; 90124]) -> usize
     ensures { Front (Rig.dumped text.now) out.new result }
 {
-    clear(image);
-    let bad = gather(text, image);
-    if bad != 0 {
-        return put_bad(out, 0, bad);
+    image.fill(0);
+    match gather(text, image) {
+        // The image has four groups, and the output room for them.
+        Ok(()) => write_hex(image, out).unwrap(),
+        Err(bad) => put_bad(out, 0, bad.number),
     }
-    write_hex(image, out).count
 }

@@ -1,9 +1,10 @@
 // A dump as `grom` lines, or why it is refused.
 ghost use Rattle.std.specs.Prelude.{◌≡◌, ◌+◌, ◌≤◌, ◌<◌, length};
 ghost use Rattle.lines.specs.Shown.{Prints, Front};
+ghost use Rattle.intelhex.specs.Meaning.{fault_of};
 ghost use Rattle.rig.specs.Rig;
 
-use intelhex::dump::read_hex;
+use intelhex::dump::{ReadError, read_hex};
 use intelhex::flags::idle;
 use intelhex::rows::put_pairs;
 use lines::print::{put_decimal, put_digits, put_word};
@@ -26,57 +27,50 @@ fn put_image(image: &[u8], out: &mut [u8]) -> usize
     ensures { Prints 88064 (Rig.grom_lines 2048 0 image.now) out 0 result }
 {
     let mut past = 0;
-    let mut k = 0;
-    while k < 2048 {
-        let from = k * 16;
-        let end = from + 16;
-        k += 1;
-        if !idle(&image[from..end]) {
-            past = put_grom(out, past, from, &image[from..end]);
+    for (k, bytes) in image.chunks_exact(16).enumerate() {
+        let address = k * 16;
+        if !idle(bytes) {
+            past = put_grom(out, past, address, bytes);
         }
     }
     past
 }
 
-// What an answer means.
-fn put_meaning(out: &mut [u8], at: usize, answer: u8) -> usize
-    requires { at + 90 ≤ length out.old }
-    ensures { Prints 90 (Rig.meaning answer) out at result }
+// What a refusal means. A wrong length is none of the rig's.
+#[tactic(auto, unfolding(crate::specs::Rig::meaning))]
+fn meaning(why: ReadError) -> &'static [u8]
+    ensures says { result.now ≡ Rig.meaning (fault_of why).answer }
+    ensures fits { length result.now ≤ 90 }
 {
-    if answer == 20 {
-        return put_word(
-            out,
-            at,
-            b"bad record: form, sum, type, an address above >7FFF, or text after the end record",
-        );
+    match why {
+        ReadError::BadRecord(_) => {
+            b"bad record: form, sum, type, an address above >7FFF, or text after the end record"
+        }
+        ReadError::NamedTwice(_) => b"address named twice",
+        ReadError::NoEnd(_) | ReadError::WrongLength => b"no end record",
     }
-    if answer == 21 {
-        return put_word(out, at, b"address named twice");
-    }
-    put_word(out, at, b"no end record")
 }
 
 // The answer, the line at fault, and what that means.
-fn put_refusal(out: &mut [u8], answer: u8, line: usize) -> usize
+fn put_refusal(out: &mut [u8], why: ReadError) -> usize
     requires { 150 ≤ length out.old }
-    ensures { Prints 150 (Rig.refusal answer line) out 0 result }
+    ensures { Prints 150 (Rig.refusal (fault_of why).answer (fault_of why).line) out 0 result }
 {
     let a = put_word(out, 0, b"answer\t");
-    let b = put_decimal(out, a, answer as u64);
+    let b = put_decimal(out, a, u64::from(why.answer()));
     let c = put_word(out, b, b"\tline\t");
-    let d = put_decimal(out, c, line as u64);
+    let d = put_decimal(out, c, why.line() as u64);
     let e = put_word(out, d, b"\t");
-    let f = put_meaning(out, e, answer);
+    let f = put_word(out, e, meaning(why));
     put_word(out, f, b"\n")
 }
 
-// A text of records, shown to the operator.
+// A text of records, shown to the operator: so many bytes at the front of a lent buffer, since nothing is allocated.
 pub fn show(text: &[u8], image: &mut [u8; 32768], out: &mut [u8; 88064]) -> usize
     ensures { Front (Rig.shown text.now) out.new result }
 {
-    let r = read_hex(text, image);
-    if r.answer != 0 {
-        return put_refusal(out, r.answer, r.line);
+    match read_hex(text, image) {
+        Ok(()) => put_image(image, out),
+        Err(why) => put_refusal(out, why),
     }
-    put_image(image, out)
 }

@@ -2,72 +2,59 @@
 ghost use Rattle.std.specs.Prelude.{◌≤◌, length, IfOk};
 
 use crate::{gather, show};
+use desk::show::write_text;
 use std::io;
 use std::io::{Read, Write};
 
-// Reads until a buffer is full or the input ends: how many bytes are at its front.
+// Reads until a buffer is full or the input ends: how many bytes are at its front. A loop, since `read_exact` would not say how many there were.
 fn read_full<R: Read>(input: &mut R, text: &mut [u8]) -> io::Result<usize>
     ensures { IfOk result (λ n. n ≤ length text.new) }
 {
     let mut have = 0;
     while have < text.len() {
-        let room = &mut text[have..];
-        let got = input.read(room)?;
+        let got = input.read(&mut text[have..])?;
         if got == 0 {
-            return Ok(have);
+            break;
         }
         have += got;
     }
     Ok(have)
 }
 
-fn say_long<W: Write>(output: &mut W) -> io::Result<()> {
-    output.write_all(b"text too long: more than 524288 bytes\n")
-}
-
-fn show_input<R: Read, W: Write>(
+// A text that fits in the buffer with a byte to spare is handed to `write`: the byte is read to see that a text has more.
+// The buffer is a parameter and an array: made here, or lent as a slice, its zeros took more stack than the check has.
+fn answer<R: Read, W: Write, F>(
     input: &mut R,
     output: &mut W,
     text: &mut [u8; 524289],
-    image: &mut [u8; 32768],
-    out: &mut [u8; 88064],
-) -> io::Result<()> {
+    write: F,
+) -> io::Result<()>
+where
+    F: FnOnce(&[u8], &mut W) -> io::Result<()>,
+    requires { F.IsAlwaysCallable write }
+{
     let have = read_full(input, text)?;
     if have == text.len() {
-        return say_long(output);
+        return output.write_all(b"text too long: more than 524288 bytes\n");
     }
-    let count = show::show(&text[..have], image, out);
-    desk::show::write_text(output, out, count)
+    write(&text[..have], output)
 }
 
-fn dump_input<R: Read, W: Write>(
-    input: &mut R,
-    output: &mut W,
-    text: &mut [u8; 524289],
-    image: &mut [u8; 32768],
-    out: &mut [u8; 90124],
-) -> io::Result<()> {
-    let have = read_full(input, text)?;
-    if have == text.len() {
-        return say_long(output);
-    }
-    let count = gather::dump(&text[..have], image, out);
-    desk::show::write_text(output, out, count)
-}
-
-// A dump, shown. One that names each byte of the image by a record of its own has less than 524,288 bytes; one more is read, to see that a text has more.
-// The error is that of a read or a write that failed.
+// A dump, shown: one that names each byte of the image by a record of its own has less than 524,288 bytes. The error is that of a read or a write
+// that failed.
 pub fn show_all<R: Read, W: Write>(input: &mut R, output: &mut W) -> io::Result<()> {
-    let mut text = [0u8; 524289];
-    let mut image = [0u8; 32768];
-    let mut out = [0u8; 88064];
-    show_input(input, output, &mut text, &mut image, &mut out)
+    answer(input, output, &mut [0; 524289], |text, output| {
+        let mut out = [0; 88064];
+        let count = show::show(text, &mut [0; 32768], &mut out);
+        write_text(output, &out, count)
+    })
 }
 
 // A bench file, dumped. The error is that of a read or a write that failed.
 pub fn dump_all<R: Read, W: Write>(input: &mut R, output: &mut W) -> io::Result<()> {
-    let mut text = [0u8; 524289];
-    let mut image = [0u8; 32768];
-    let mut out = [0u8; 90124];
-    dump_input(input, output, &mut text, &mut image, &mut out)
+    answer(input, output, &mut [0; 524289], |text, output| {
+        let mut out = [0; 90124];
+        let count = gather::dump(text, &mut [0; 32768], &mut out);
+        write_text(output, &out, count)
+    })
 }

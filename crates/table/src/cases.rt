@@ -1,212 +1,66 @@
 // One case: lines that set the machine, a run, and lines that say all that it must leave.
 use crate::fields;
-use bench::at::At;
 use bench::runs::Report;
-use desk::obey;
-use desk::obey::Stand;
+use desk::obey::BadLine;
+use desk::show::ROOM;
+use desk::state::Machine;
+use desk::{obey, state};
 use lines::read::Line;
 use lines::{print, read};
 
-// The steps of a field that is a run.
-#[derive(Drop)]
-struct Steps {
-    count: u32,
-    is: bool,
+// How far fields were obeyed: up to a run of so many steps, and the fields past it; or to the end, where one may have been the answer line.
+#[derive(Clone, Copy)]
+enum Course<'a> {
+    Run { steps: u32, rest: &'a [u8] },
+    End { answered: bool },
 }
 
-fn steps_in(text: &[u8]) -> Steps {
-    let line = read::read_line(text);
-    match line {
-        Line::Run(count) => Steps { count, is: true },
-        _ => Steps {
-            count: 0,
-            is: false,
-        },
-    }
-}
-
-// How far the fields were obeyed: up to a run of so many steps, or to the end; `answered` where one was the answer line, `good` where each says
-// something.
-#[derive(Drop)]
-struct Course {
-    at: At,
-    steps: u32,
-    from: usize,
-    ran: bool,
-    answered: bool,
-    good: bool,
-}
-
-// A field that is no run, obeyed: what it prints is of no use here.
-fn obey_field(
-    text: &[u8],
-    image: &mut [u8; 32768],
-    pad: &mut [u8; 256],
-    vram: &mut [u8; 16384],
-    regs: &mut [u8; 8],
-    journal: &mut [u32; 16384],
-    at: At,
-) -> Stand {
-    let mut out = [0u8; 216507];
-    obey::obey(text, 0, image, pad, vram, regs, journal, at, &mut out)
-}
-
-// Each field obeyed, up to a run. A field that is the answer line is none to obey.
-fn obey_fields(
-    case: &[u8],
-    first: usize,
+// Each field obeyed, up to a run: what it prints is of no use here. A field that is the answer line is none to obey.
+fn obey_fields<'a>(
+    fields: &'a [u8],
     answer: &[u8],
     text: &mut [u8],
-    image: &mut [u8; 32768],
-    pad: &mut [u8; 256],
-    vram: &mut [u8; 16384],
-    regs: &mut [u8; 8],
-    journal: &mut [u32; 16384],
-) -> Course {
-    let mut course = Course {
-        at: obey::first(),
-        steps: 0,
-        from: first,
-        ran: false,
-        answered: false,
-        good: true,
-    };
-    while course.from < case.len() {
-        let field = fields::field_at(case, course.from);
-        let len = fields::as_line(case, course.from, field.end, text);
-        course.from = field.next;
-        let line = &text[..len];
-        if fields::same(line, answer) {
-            course.answered = true;
+    machine: &mut Machine,
+) -> Result<Course<'a>, BadLine> {
+    let mut out = [0u8; ROOM];
+    let mut rest = fields;
+    let mut answered = false;
+    while let Some((field, next)) = fields::split_field(rest) {
+        rest = next;
+        let line = fields::as_line(field, text);
+        if line == answer {
+            answered = true;
             continue;
         }
-        let run = steps_in(line);
-        if run.is {
-            course.steps = run.count;
-            course.ran = true;
-            return course;
+        if let Some(Line::Run(steps)) = read::read_line(line) {
+            return Ok(Course::Run { steps, rest });
         }
-        let stand = obey_field(line, image, pad, vram, regs, journal, course.at);
-        let there = stand.at;
-        course.at = there;
-        course.good = stand.good;
-        if !stand.good {
-            return course;
-        }
+        obey::obey(line, 0, machine, &mut out)?;
     }
-    course
+    Ok(Course::End { answered })
 }
 
-// Whether the fields after a run say what it has left: its answer line, its pc, and its cells, by what is wanted of them.
-fn as_said(
-    case: &[u8],
-    first: usize,
-    text: &mut [u8],
-    image: &mut [u8; 32768],
-    pad: &mut [u8; 256],
-    vram: &mut [u8; 16384],
-    regs: &mut [u8; 8],
-    journal: &mut [u32; 16384],
-    r: Report,
-) -> bool {
+// Whether the fields after a run have its answer line; the others set the machine that is wanted.
+fn answer_said(fields: &[u8], text: &mut [u8], wanted: &mut Machine, r: Report) -> bool {
     let mut line = [0u8; 80];
     let count = print::put_answer(&mut line, 0, r.answer, r.steps, r.stores, r.address);
-    let answer = fields::unended(&line, count);
-    let course = obey_fields(case, first, answer, text, image, pad, vram, regs, journal);
-    if course.ran {
-        return false;
-    }
-    course.good && course.answered && course.at.pc == r.at.pc
+    let answer = &line[..count.saturating_sub(1)];
+    let course = obey_fields(fields, answer, text, wanted);
+    matches!(course, Ok(Course::End { answered: true }))
 }
 
-// Whether every cell is as it is wanted.
-fn all_same(
-    image: &[u8; 32768],
-    want_image: &[u8; 32768],
-    pad: &[u8; 256],
-    want_pad: &[u8; 256],
-    vram: &[u8; 16384],
-    want_vram: &[u8; 16384],
-    regs: &[u8; 8],
-    want_regs: &[u8; 8],
-) -> bool {
-    let groms = fields::same(image, want_image);
-    let pads = fields::same(pad, want_pad);
-    groms && pads && fields::same(vram, want_vram) && fields::same(regs, want_regs)
-}
-
-// The run of a case, and whether it leaves what the fields after it say, in every cell.
-fn run_holds(
-    case: &[u8],
-    text: &mut [u8],
-    image: &mut [u8; 32768],
-    pad: &mut [u8; 256],
-    vram: &mut [u8; 16384],
-    regs: &mut [u8; 8],
-    journal: &mut [u32; 16384],
-    start: Course,
-) -> bool {
-    let mut want_image = *image;
-    let mut want_pad = *pad;
-    let mut want_vram = *vram;
-    let mut want_regs = *regs;
-    let r = bench::runs::run(image, pad, vram, regs, journal, start.at, start.steps);
-    let said = as_said(
-        case,
-        start.from,
-        text,
-        &mut want_image,
-        &mut want_pad,
-        &mut want_vram,
-        &mut want_regs,
-        journal,
-        r,
-    );
-    let kept = all_same(
-        image,
-        &want_image,
-        pad,
-        &want_pad,
-        vram,
-        &want_vram,
-        regs,
-        &want_regs,
-    );
-    said && kept
-}
-
-// A case from its third field on: the first two are words.
-fn run_case(
-    case: &[u8],
-    text: &mut [u8],
-    image: &mut [u8; 32768],
-    pad: &mut [u8; 256],
-    vram: &mut [u8; 16384],
-    regs: &mut [u8; 8],
-    journal: &mut [u32; 16384],
-) -> bool {
-    let first = fields::past_words(case);
-    let start = obey_fields(case, first, b"", text, image, pad, vram, regs, journal);
-    if !start.ran {
-        return false;
-    }
-    run_holds(case, text, image, pad, vram, regs, journal, start)
-}
-
-// Whether a case holds, on a machine of its own.
+// Whether a case holds, on a machine of its own: its first two fields are words, and after the run pc and every cell is as it is wanted.
 pub(crate) fn holds(case: &[u8], text: &mut [u8]) -> bool {
-    let mut image = [0u8; 32768];
-    let mut pad = [0u8; 256];
-    let mut vram = [0u8; 16384];
-    let mut regs = [0u8; 8];
-    let mut journal = [0u32; 16384];
-    run_case(
-        case,
-        text,
-        &mut image,
-        &mut pad,
-        &mut vram,
-        &mut regs,
-        &mut journal,
-    )
+    let mut machine = Machine::new();
+    let course = obey_fields(fields::past(case, 2), b"", text, &mut machine);
+    let Ok(Course::Run { steps, rest }) = course else {
+        return false;
+    };
+    let mut wanted = machine;
+    wanted.at = state::first();
+    let report = machine.run(steps);
+    answer_said(rest, text, &mut wanted, report)
+        && machine.at.pc == wanted.at.pc
+        && machine.image == wanted.image
+        && machine.cells == wanted.cells
 }

@@ -1,28 +1,28 @@
 // A table judged, case by case. An empty line, or one that begins with #, is no case.
-ghost use Rattle.std.specs.Prelude.{◌≡◌, ◌-◌, ◌≤◌, length, IfOk};
+ghost use Rattle.std.specs.Prelude.{◌-◌, ◌≤◌, length, IfOk};
 ghost use Rattle.desk.specs.Desk.{longest};
 
 use crate::{cases, fields};
 use desk::input;
-use desk::input::Found;
+use desk::input::{LONGEST, PIECE};
+use desk::pending::Pending;
 use std::io;
 use std::io::{Read, Write};
 
 // A case's first field, after `ok` or `differs`.
 fn judge<W: Write>(output: &mut W, case: &[u8], text: &mut [u8]) -> io::Result<()> {
-    if case.len() == 0 {
+    if case.starts_with(b"#") {
         return Ok(());
     }
-    if case[0] == b'#' {
+    let Some((section, _)) = fields::split_field(case) else {
         return Ok(());
-    }
+    };
     if cases::holds(case, text) {
         output.write_all(b"ok\t")?;
     } else {
         output.write_all(b"differs\t")?;
     }
-    let field = fields::field_at(case, 0);
-    output.write_all(&case[..field.end])?;
+    output.write_all(section)?;
     output.write_all(b"\n")
 }
 
@@ -36,42 +36,35 @@ fn judge_lines<W: Write>(
     ensures { IfOk result (λ at. (at ≤ length lines.now) × (length lines.now - at ≤ longest)) }
 {
     let mut at = 0;
-    loop {
-        let Found::Line { end, next } = input::line_at(lines, at, ended) else {
-            return Ok(at);
-        };
-        judge(output, &lines[at..end], text)?;
-        at = next;
+    while let Some(line) = input::line_at(lines, at, ended) {
+        judge(output, &lines[at..line.end], text)?;
+        at = line.next;
     }
+    Ok(at)
 }
 
 fn judge_input<R: Read, W: Write>(
     input: &mut R,
     output: &mut W,
-    lines: &mut [u8],
+    pending: &mut Pending<PIECE>,
     text: &mut [u8],
 ) -> io::Result<()>
-    requires { length lines.old ≡ 65547 }
+    requires { length pending.old ≤ longest }
 {
-    let mut from: usize = 0;
-    let mut have: usize = 0;
-    let mut reads: u64 = 0;
-    while reads < u64::MAX {
-        let kept = have - from;
-        have = input::refill(input, lines, from, have)?;
-        let ended = have == kept;
-        from = judge_lines(output, &lines[..have], ended, text)?;
+    for _ in 0..u64::MAX {
+        let ended = pending.refill(input)? == 0;
+        let judged = judge_lines(output, pending.bytes(), ended, text)?;
+        pending.pass(judged);
         if ended {
             return Ok(());
         }
-        reads += 1;
     }
     Ok(())
 }
 
 // The error is that of a read or a write that failed.
 pub fn run_table<R: Read, W: Write>(input: &mut R, output: &mut W) -> io::Result<()> {
-    let mut lines = [0u8; 65547];
-    let mut text = [0u8; 65546];
-    judge_input(input, output, &mut lines, &mut text)
+    let mut pending = Pending::new();
+    let mut text = [0u8; LONGEST];
+    judge_input(input, output, &mut pending, &mut text)
 }

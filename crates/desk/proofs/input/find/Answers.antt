@@ -1,19 +1,16 @@
--- By the byte at the place, or by there being no more.
-use Rattle.std.proofs.Common.{arith}
-use Rattle.desk.proofs.Scan.{found_here, passed, none_left}
+-- By what `position` gives.
+use Rattle.std.proofs.Common.{rules, tests, sym, ◌∙◌, eqb}
+use Rattle.std.proofs.lemmas.Iterator.{YieldsList-from_slice}
+use Rattle.std.proofs.lemmas.Iterator.Search.{position_from_yields_List}
+use Rattle.desk.proofs.Scan.{found, unfound}
 use Rattle.desk.proofs.input.find.Goals as goal
 
-pub returns-then-text-at : goal.returns-then-text-at
-returns-then-text-at c =
-    let here = found_here c.args.text.now c.args.byte c.loop-at.at c.args.end c.requires.1 c.loop-at-test.true c.if-text-at.true in
-    (omega (arith, here, c.loop-at.invariant.2), c.loop-at.invariant.1)
+pub returns-in-Some : goal.returns-in-Some
+returns-in-Some c =
+    let is = position_from_yields_List (λ b. eqb b c.args.byte) _ _ c.position.result c.position.ensures.ran (YieldsList-from_slice _ c.iter.ensures.rest) (λ x b q k. search (rules, tests)) in
+    found _ _ _ c.requires.0 c.requires.1 c.args.byte _ (sym c.in-Some.is ∙ is)
 
-pub loop-at-preserved : goal.loop-at-preserved
-loop-at-preserved c =
-    let on = passed c.args.text.now c.args.byte c.loop-at.at c.args.end c.requires.1 c.loop-at-test.true c.if-text-at.false in
-    (omega (arith, c.loop-at.invariant.0), omega (arith, c.loop-at-test.true), omega (arith, on, c.loop-at.invariant.2))
-
-pub returns : goal.returns
-returns c =
-    let none = none_left c.args.text.now c.args.byte c.loop-at.at c.args.end c.requires.1 (omega (arith, c.loop-at-test.false)) in
-    (omega (arith, none, c.loop-at.invariant.2), c.loop-at.invariant.1)
+pub returns-in-None : goal.returns-in-None
+returns-in-None c =
+    let is = position_from_yields_List (λ b. eqb b c.args.byte) _ _ c.position.result c.position.ensures.ran (YieldsList-from_slice _ c.iter.ensures.rest) (λ x b q k. search (rules, tests)) in
+    (unfound _ _ _ c.requires.0 c.requires.1 c.args.byte (sym c.in-None.is ∙ is), search rules)

@@ -1,5 +1,5 @@
 -- A line that is too long says nothing; of any other, what is read is what is heard.
-use mathlib.Core.Path.{sym}
+use Rattle.std.proofs.Common.{sym}
 use Rattle.lines.proofs.Said.{says_bad, says_same}
 use Rattle.desk.proofs.Cut.{heard_long, heard_short}
 use Rattle.desk.proofs.obey.line_of.Goals as goal

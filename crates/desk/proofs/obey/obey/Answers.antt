@@ -1,15 +1,21 @@
 -- By what the line says: a run, or nothing.
-use mathlib.Core.Path.{refl}
-use borrow.Author.Rules.{rules}
+use Rattle.std.proofs.Common.{rules, refl, sym, ap, ◌∙◌, ◌≡◌, subst, List, ℕ, Result}
+use Rattle.rules.specs.Machine.{State}
+use Rattle.lines.specs.Lines.{Line}
+use Rattle.lines.specs.Meaning.{told}
 use Rattle.lines.proofs.Printing.{front}
-use Rattle.lines.proofs.Said.{says_as}
-use Rattle.desk.proofs.Laws.{by_line}
+use Rattle.desk.specs.Meaning.{Obeyed}
+use Rattle.desk.specs.declared.obey.BadLine.{BadLine}
 use Rattle.desk.proofs.obey.obey.Goals as goal
 
-pub returns-in-Run : goal.returns-in-Run
-returns-in-Run c = λ _. by_line (says_as c.line_of-line.ensures c.in-Run.is).means (c.run_shown.ensures _ _)
+-- a line that says m
+by_line : {k : ℕ} {l m : Line} {s s₁ : State} {buffer : List ℕ} {r : Result ℕ BadLine} → l ≡ m → Obeyed k l s s₁ buffer r → Obeyed k m s s₁ buffer r
+by_line {k} {l} {m} {s} {s₁} {buffer} {r} e o = subst (λ (x : Line). Obeyed k x s s₁ buffer r) e o
 
-pub returns-in-Bad : goal.returns-in-Bad
-returns-in-Bad c =
+pub returns-in-Run : goal.returns-in-Run
+returns-in-Run c = by_line (sym (ap told c.in-Run.is) ∙ c.in-Some.ensures.means) (c.run_shown.ensures _)
+
+pub returns-in_default : goal.returns-in_default
+returns-in_default c =
     let number = front c.put_bad-count.ensures (search rules) (search rules) in
-    λ _. by_line (says_as c.line_of-line.ensures c.in-Bad.is).means (record { leaves = refl; prints = number; taken = refl })
+    by_line c.in_default.ensures.means (record { leaves = refl; prints = number; taken = refl })

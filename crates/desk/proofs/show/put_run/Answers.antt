@@ -1,5 +1,5 @@
 -- The lines, one after the other; the cells' lines are bounded by the sizes of the parts.
-use borrow.Author.Rules.{rules}
+use Rattle.std.proofs.Common.{rules}
 use Rattle.lines.specs.Shown.{run_lines}
 use Rattle.lines.proofs.Printing.{more, within, front}
 use Rattle.desk.proofs.show.put_run.Goals as goal

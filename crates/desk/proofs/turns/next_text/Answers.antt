@@ -1,25 +1,15 @@
 -- A line that prints something ends the loop.
-use mathlib.Core.Path.{refl}
-use native.Mathlib.Omega.{arith}
-use Rattle.desk.proofs.Telling.{found_line, tells_then, tells_quiet, quiet_good, tells_line, turned_none, turned_some, line_on}
+use Rattle.std.proofs.Common.{rules, refl, ◌≡◌, Err}
+use Rattle.desk.proofs.Telling.{loud_bad, line_turns, line_quiet}
 use Rattle.desk.proofs.turns.next_text.Goals as goal
 
-pub returns-in_default : goal.returns-in_default
-returns-in_default c = (c.loop-end.invariant.0, λ _. turned_none (c.loop-end.invariant.1 _) (rw c.in_default.is at c.line_at.ensures))
-
 pub returns-then-count-ne0 : goal.returns-then-count-ne0
-returns-then-count-ne0 c =
-    let head = found_line c.line_at.ensures c.in-Line.is in
-    let on = c.loop-end.invariant.0 in (
-      line_on on head.moves head.reaches refl,
-      λ _. turned_some (c.loop-end.invariant.1 _) (tells_line head (c.obey-stand.ensures _)) (c.obey-stand.ensures _).prints.fits c.if-count-ne0.true (omega (arith, on.lines)),
-    )
+returns-then-count-ne0 c = line_turns c.loop-line.invariant c.in-Some.ensures c.in_ok-count.ensures refl c.if-count-ne0.true
 
-pub loop-end-preserved : goal.loop-end-preserved
-loop-end-preserved c =
-    let head = found_line c.line_at.ensures c.in-Line.is in
-    let none = c.if-count-ne0.false in
-    let line = c.obey-stand.ensures in (
-      line_on c.loop-end.invariant.0 head.moves head.reaches refl,
-      λ _. tells_then (c.loop-end.invariant.1 _) (tells_quiet _ _ none (quiet_good (line _) none) (tells_line head (line _))),
-    )
+pub returns-in_err-count : goal.returns-in_err-count
+returns-in_err-count c =
+    let is : c.from_residual.result ≡ Err c.in_err-count.field-0.0 = search rules in
+    rw is (line_turns c.loop-line.invariant c.in-Some.ensures c.in_err-count.ensures refl (loud_bad c.in_err-count.ensures refl))
+
+pub loop-line-preserved : goal.loop-line-preserved
+loop-line-preserved c = line_quiet c.loop-line.invariant c.in-Some.ensures c.in_ok-count.ensures c.if-count-ne0.false

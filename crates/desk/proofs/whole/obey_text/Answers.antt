@@ -1,38 +1,21 @@
 -- What a turn tells comes after what was told before; where it can't be written, so much is told all the same.
-use native.Mathlib.Omega.{arith}
-use borrow.Author.Tests.{not-true, not-false}
-use Rattle.desk.proofs.Telling.{said_on, spoken_all, spoken_bad, said_good, further, broken}
+use Rattle.std.proofs.Common.{rules, refl, ◌≡◌, Err, true, false}
+use Rattle.desk.specs.declared.whole.Halt.TheVariants as halt
+use Rattle.desk.proofs.Telling.{said_there, spoken_there}
 use Rattle.desk.proofs.whole.obey_text.Goals as goal
 
-pub write_text-requires : goal.write_text-requires
-write_text-requires g c = (c.next_text-turn.ensures.1 _).fits
+pub returns-in-Err-clause-err : goal.returns-in-Err-clause-err
+returns-in-Err-clause-err g c = spoken_there c.loop-count.invariant c.in-Err.ensures refl
 
-pub returns-in_err-write_text-clause-err : goal.returns-in_err-write_text-clause-err
-returns-in_err-write_text-clause-err g c =
-    broken _ _ c.next_text-turn.result.place c.next_text-turn.result.good (
-      further c.loop-after.invariant.0 c.next_text-turn.ensures.0,
-      λ _. said_on (c.loop-after.invariant.1 _) (c.next_text-turn.ensures.1 _),
-    )
+pub returns-in_err-write_text-in-Ok-clause-err : goal.returns-in_err-write_text-in-Ok-clause-err
+returns-in_err-write_text-in-Ok-clause-err g c =
+    let broken : c.from_residual.result ≡ Err (halt.Io c.in_err-write_text-in-Ok.field-0.0) = search rules in
+    rw broken (true, said_there c.loop-count.invariant c.in-Ok.ensures)
 
-pub returns-then-turn-eq0-clause-ok : goal.returns-then-turn-eq0-clause-ok
-returns-then-turn-eq0-clause-ok g c = (
-  further c.loop-after.invariant.0 c.next_text-turn.ensures.0,
-  λ _. spoken_all (c.loop-after.invariant.1 _) (c.next_text-turn.ensures.1 _) c.if-turn-eq0.true,
-)
+pub returns-in_err-write_text-in-Err-clause-err : goal.returns-in_err-write_text-in-Err-clause-err
+returns-in_err-write_text-in-Err-clause-err g c =
+    let broken : c.from_residual-in_err-write_text-in-Err.result ≡ Err (halt.Io c.in_err-write_text-in-Err.field-0.0) = search rules in
+    rw broken (false, said_there c.loop-count.invariant c.in-Err.ensures)
 
-pub returns-then-not-turn-clause-ok : goal.returns-then-not-turn-clause-ok
-returns-then-not-turn-clause-ok g c = (
-  further c.loop-after.invariant.0 c.next_text-turn.ensures.0,
-  λ _. spoken_bad (c.loop-after.invariant.1 _) (c.next_text-turn.ensures.1 _) (not-true _ c.if-not-turn.true),
-)
-
-pub loop-after-smaller : goal.loop-after-smaller
-loop-after-smaller g c =
-    let on = c.next_text-turn.ensures.0 in
-    omega (arith, on.bytes, on.within, (c.next_text-turn.ensures.1 _).moves c.if-turn-eq0.false)
-
-pub loop-after-preserved : goal.loop-after-preserved
-loop-after-preserved g c = (
-  further c.loop-after.invariant.0 c.next_text-turn.ensures.0,
-  λ _. said_good (c.loop-after.invariant.1 _) (c.next_text-turn.ensures.1 _) (not-false _ c.if-not-turn.false),
-)
+pub loop-count-preserved : goal.loop-count-preserved
+loop-count-preserved g c = said_there c.loop-count.invariant c.in-Ok.ensures

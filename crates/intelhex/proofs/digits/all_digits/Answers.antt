@@ -1,17 +1,10 @@
--- Digit by digit: whether the rest are digits is kept.
-use mathlib.Core.Path.{refl, sym, ◌∙◌}
-use native.Mathlib.Omega.{arith}
-use Rattle.intelhex.proofs.Forming.{digits_on, digits_off, digits_end}
+use Rattle.std.proofs.Common.{◌∙◌, ltb, rules, tests}
+use Rattle.std.proofs.lemmas.Iterator.{YieldsList-from_slice}
+use Rattle.std.proofs.lemmas.Iterator.Search.{all_from_yields_List}
+use Rattle.intelhex.specs.Records.{value}
+use Rattle.intelhex.proofs.Forming.{digits_all}
 use Rattle.intelhex.proofs.digits.all_digits.Goals as goal
 
-pub loop-i-init : goal.loop-i-init
-loop-i-init c = (refl, omega arith)
-
-pub returns-then-d-ge16 : goal.returns-then-d-ge16
-returns-then-d-ge16 c = sym (c.loop-i.invariant.0 ∙ digits_off _ _ c.loop-i-test.true (omega arith))
-
-pub loop-i-preserved : goal.loop-i-preserved
-loop-i-preserved c = (c.loop-i.invariant.0 ∙ digits_on _ _ c.loop-i-test.true (omega arith), omega arith)
-
 pub returns : goal.returns
-returns c = sym (c.loop-i.invariant.0 ∙ digits_end _ _ c.loop-i-test.false)
+returns c =
+    all_from_yields_List (λ x. ltb (value x) 16) _ _ _ c.all.ensures.ran (YieldsList-from_slice c.args.s.now cc) (λ x b q k. search (rules, tests)) ∙ digits_all c.args.s.now

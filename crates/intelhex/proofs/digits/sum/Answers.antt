@@ -1,15 +1,17 @@
--- Pair by pair: the sum of the rest is kept.
-use mathlib.Core.Path.{sym, ◌∙◌}
-use native.Mathlib.Omega.{arith}
-use native.Mathlib.Nat.{zero-add}
+use Rattle.std.proofs.Common.{refl, sym, ◌∙◌, arith, zero-add}
 use Rattle.intelhex.proofs.Forming.{sum_on, sum_end}
 use Rattle.intelhex.proofs.digits.sum.Goals as goal
 
-pub loop-i-init : goal.loop-i-init
-loop-i-init c = (rw zero-add, omega arith, omega arith)
+pub loop-digits-init : goal.loop-digits-init
+loop-digits-init c = rw (c.into_iter-digits-iterator.ensures.into_iter_gives, c.chunks_exact-digits-items.ensures.rest, c.chunks_exact-digits-items.ensures.size, zero-add) (refl, refl)
 
-pub loop-i-preserved : goal.loop-i-preserved
-loop-i-preserved c = (c.loop-i.invariant.0 ∙ sum_on _ _ _ _ c.loop-i-test.true c.pair-b.ensures, omega arith, omega arith)
+pub loop-digits-preserved : goal.loop-digits-preserved
+loop-digits-preserved c =
+    let turn = c.in-Some.ensures.steps in
+    let two = turn.1.1 ∙ c.loop-digits.invariant.1 in
+    (c.loop-digits.invariant.0 ∙ sum_on _ _ _ _ two turn.1.0 c.pair-t.ensures, turn.0 ∙ c.loop-digits.invariant.1)
 
 pub returns : goal.returns
-returns c = sym (c.loop-i.invariant.0 ∙ sum_end _ _ _ c.loop-i-test.false c.loop-i.invariant.2)
+returns c =
+    let past = c.in-None.ensures.steps in
+    sym (c.loop-digits.invariant.0 ∙ sum_end _ _ (omega (arith, past.1.0, c.loop-digits.invariant.1)) (omega arith))

@@ -1,62 +1,41 @@
--- Line by line: the verdict on the rest is kept.
-use mathlib.Core.Path.{refl, sym, ◌∙◌}
-use native.Mathlib.Omega.{arith}
-use borrow.Author.Rules.{rules}
-use Rattle.intelhex.proofs.Judging.{judged_bad, end_last, end_early, judged_none, judged_off, judged_on}
+-- Record by record: the verdict on the rest is kept.
+use Rattle.std.proofs.Common.{refl, sym, ◌∙◌, arith, true-eqb, false-eqb}
+use Rattle.intelhex.proofs.Judging.{judged_bad, judged_end, judged_more, judged_none, judged_off, judged_on, clashes}
 use Rattle.intelhex.proofs.dump.judge.Goals as goal
 
-pub loop-at-init : goal.loop-at-init
-loop-at-init c = (refl, omega arith, refl, omega arith)
-
-pub returns-in-Bad : goal.returns-in-Bad
-returns-in-Bad c =
-    judged_bad _ _ _ _ (rw c.in-Bad.is at (c.record_at-l.ensures c.loop-at-test.true).means)
-    ∙ sym c.loop-at.invariant.0
-
-pub returns-then-at-n : goal.returns-then-at-n
-returns-then-at-n c =
-    end_early _ _ _ _ _ (rw c.in-End.is at
-    (c.record_at-l.ensures c.loop-at-test.true).means)
-    c.if-at-n.true ∙ sym c.loop-at.invariant.0
+pub returns-in_default-said : goal.returns-in_default-said
+returns-in_default-said c =
+    let turn = c.in-Some.ensures.steps in
+    judged_bad _ _ _ _ (rw c.in_default-said.is at turn.means) ∙ sym c.loop-said.invariant.0
 
 pub returns-in-End : goal.returns-in-End
 returns-in-End c =
-    end_last _ _ _ _ _ (rw c.in-End.is at
-    (c.record_at-l.ensures c.loop-at-test.true).means)
-    c.if-at-n.false ∙ sym c.loop-at.invariant.0
+    let turn = c.in-Some.ensures.steps in
+    judged_end _ _ _ _ (true-eqb _ 0 c.if-is_empty.ensures) (rw (c.in-Some-said.is, c.in-End.is) at turn.means) ∙ sym c.loop-said.invariant.0
 
-pub mark-a-requires : goal.mark-a-requires
-mark-a-requires c = (
-  (rw c.in-Holds.is at (c.record_at-l.ensures c.loop-at-test.true).within).1,
-  (rw
-      c.in-Holds.is at (c.record_at-l.ensures c.loop-at-test.true).within).2,
-)
+pub returns-in-End-2 : goal.returns-in-End-2
+returns-in-End-2 c =
+    let turn = c.in-Some.ensures.steps in
+    let more = false-eqb _ 0 c.if-is_empty.ensures in
+    judged_more _ _ _ _ (omega (arith, more)) (rw (c.in-Some-said.is, c.in-End-2.is) at turn.means) ∙ sym c.loop-said.invariant.0
 
-pub returns-then-a-ne0 : goal.returns-then-a-ne0
-returns-then-a-ne0 c =
-    let turn = c.record_at-l.ensures c.loop-at-test.true in
-    judged_off _ _ _ _ _ _ _ _ _ _ (rw c.in-Holds.is at turn.within).0 (rw c.in-Holds.is at turn.means)
-    c.mark-a.ensures c.if-a-ne0.true ∙ sym c.loop-at.invariant.0
+pub mark-requires : goal.mark-requires
+mark-requires c =
+    let turn = c.in-Some.ensures.steps in
+    let reaches = rw (c.in-Some-said.is, c.in-Holds.is) at turn.within in
+    (omega (arith, c.from.ensures, reaches.1), reaches.2)
 
-pub loop-at-smaller : goal.loop-at-smaller
-loop-at-smaller c =
-    omega (
-      arith,
-      (c.record_at-l.ensures c.loop-at-test.true).on,
-      (c.record_at-l.ensures
-          c.loop-at-test.true).inside,
-    )
+pub returns-in-Err : goal.returns-in-Err
+returns-in-Err c =
+    let turn = c.in-Some.ensures.steps in
+    let held = rw (c.in-Some-said.is, c.in-Holds.is) at turn.means in
+    c.at_line.ensures ∙ judged_off _ _ _ _ _ _ _ _ _ refl held _ c.from.ensures c.in-Err.ensures (clashes c.in-Err.clash) ∙ sym c.loop-said.invariant.0
 
-pub loop-at-preserved : goal.loop-at-preserved
-loop-at-preserved c =
-    let turn = c.record_at-l.ensures c.loop-at-test.true in (
-      c.loop-at.invariant.0 ∙ judged_on _ _ _ _ _ _ _ _ _ _ (rw c.in-Holds.is at turn.within).0
-          (rw c.in-Holds.is at turn.means)
-          c.mark-a.ensures c.if-a-ne0.false,
-      turn.inside,
-      search rules,
-      omega (arith, turn.on),
-    )
+pub loop-said-preserved : goal.loop-said-preserved
+loop-said-preserved c =
+    let turn = c.in-Some.ensures.steps in
+    let held = rw (c.in-Some-said.is, c.in-Holds.is) at turn.means in
+    (c.loop-said.invariant.0 ∙ judged_on _ _ _ _ _ _ _ _ _ refl held _ c.from.ensures c.in_default-mark.ensures refl, omega (arith, turn.on, c.loop-said.invariant.1))
 
 pub returns : goal.returns
-returns c = judged_none _ _ _ _ c.loop-at-test.false ∙ sym c.loop-at.invariant.0
+returns c = judged_none _ _ _ c.in_default.ensures.steps.0 ∙ sym c.loop-said.invariant.0

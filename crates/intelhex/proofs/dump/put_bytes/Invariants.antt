@@ -1,13 +1,13 @@
-use mathlib.Core.Path.{◌≡◌}
-use Prim.Native.Nat.{◌+◌, ◌-◌, ◌*◌, ◌≤◌}
-use lib.ListN.{length}
+-- The invariant: the bytes that are left, laid over the rest, give the whole.
+use Rattle.std.proofs.Common.{◌≡◌, ◌+◌}
+use Rattle.std.specs.Iterator.Adapters.{enumerate_source, enumerate_count}
+use Rattle.std.specs.Slice.Iter.{chunks_exact_rest, chunks_exact_size}
 use Rattle.lines.specs.Digits.{laid}
-use Rattle.intelhex.specs.Meaning.{pairs_at}
+use Rattle.intelhex.specs.Records.{pairs}
 use Rattle.intelhex.proofs.dump.put_bytes.Given as goal
 
 abbrev pub invariant-loop-i : goal.invariant-loop-i
 invariant-loop-i l =
-    (laid l.initial.image l.at (pairs_at l.text l.from l.count) ≡ laid l.image (l.at + l.i) (pairs_at l.text (l.from + 2 * l.i) (l.count - l.i))) × (l.i ≤ l.count) × (length l.image ≡ length l.initial.image)
-
-abbrev pub decreases-loop-i : goal.decreases-loop-i
-decreases-loop-i l = l.count - l.i
+    let rest = enumerate_source l.i-iterator in
+    (laid l.initial.image l.first (pairs l.bytes.digits.now) ≡ laid l.image (l.first + enumerate_count l.i-iterator) (pairs (chunks_exact_rest rest)))
+    × (chunks_exact_size rest ≡ 2)

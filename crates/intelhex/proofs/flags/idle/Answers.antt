@@ -1,17 +1,9 @@
--- Flag by flag: whether the rest are 0 is kept.
-use mathlib.Core.Path.{refl, sym, ◌∙◌}
-use native.Mathlib.Omega.{arith}
-use Rattle.intelhex.proofs.Marking.{idle_on, idle_off, idle_end}
+use Rattle.std.proofs.Common.{◌∙◌, eqb, rules, tests}
+use Rattle.std.proofs.lemmas.Iterator.{YieldsList-from_slice}
+use Rattle.std.proofs.lemmas.Iterator.Search.{all_from_yields_List}
+use Rattle.intelhex.proofs.Marking.{idle_all}
 use Rattle.intelhex.proofs.flags.idle.Goals as goal
 
-pub loop-i-init : goal.loop-i-init
-loop-i-init c = (refl, omega arith)
-
-pub returns-then-flags-i-ne0 : goal.returns-then-flags-i-ne0
-returns-then-flags-i-ne0 c = sym (c.loop-i.invariant.0 ∙ idle_off _ _ c.loop-i-test.true c.if-flags-i-ne0.true)
-
-pub loop-i-preserved : goal.loop-i-preserved
-loop-i-preserved c = (c.loop-i.invariant.0 ∙ idle_on _ _ c.loop-i-test.true c.if-flags-i-ne0.false, omega arith)
-
 pub returns : goal.returns
-returns c = sym (c.loop-i.invariant.0 ∙ idle_end _ _ c.loop-i-test.false)
+returns c =
+    all_from_yields_List (λ x. eqb x 0) _ _ _ c.all.ensures.ran (YieldsList-from_slice c.args.flags.now cc) (λ x b q k. search (rules, tests)) ∙ idle_all c.args.flags.now

@@ -1,5 +1,5 @@
--- No byte, beyond the image, named before, or free.
 use Rattle.intelhex.proofs.Judging.{mark_none, mark_past, mark_taken, mark_free}
+use Rattle.intelhex.proofs.Marking.{named_mid}
 use Rattle.intelhex.proofs.flags.mark.Goals as goal
 
 pub returns-then-count-eq0 : goal.returns-then-count-eq0
@@ -14,4 +14,4 @@ returns-then-not-idle c = mark_taken _ _ _ c.if-count-eq0.false c.if-flags-end.f
 pub returns : goal.returns
 returns c =
     mark_free _ _ _ c.if-count-eq0.false c.if-flags-end.false _ c.idle.ensures _ c.if-not-idle.false
-    c.name.ensures
+    (named_mid _ _ _ _ c.if-flags-end.false (c.fill.ensures.after (λ y e. e)))

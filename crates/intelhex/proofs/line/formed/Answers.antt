@@ -1,17 +1,21 @@
 -- By the colon, the number of digits, and the digits.
-use Rattle.intelhex.proofs.Saying.{formed_none, formed_not, formed_odd, formed_even}
+use Rattle.std.proofs.Common.{sym, ◌∙◌}
+use Rattle.intelhex.proofs.Saying.{formed_not, formed_odd, formed_even}
 use Rattle.intelhex.proofs.line.formed.Goals as goal
+use Rattle.intelhex.proofs.line.formed.Goals.{then-digits-ne0-via-then-digits-ne0, then-digits-ne0-via-else-digits-ne0+then-not-all_digits}
 
-pub returns-then-n-eq0 : goal.returns-then-n-eq0
-returns-then-n-eq0 c = formed_none _ c.if-n-eq0.true
+pub returns-in_err-digits : goal.returns-in_err-digits
+returns-in_err-digits c = rw c.from_residual.ensures (formed_not _ c.in_err-digits.ensures.cases)
 
-pub returns-then-s-ne58 : goal.returns-then-s-ne58
-returns-then-s-ne58 c = formed_not _ c.if-s-ne58.true
-
-pub returns-then-n-eq0-2 : goal.returns-then-n-eq0-2
-returns-then-n-eq0-2 c = formed_odd _ c.if-s-ne58.false c.if-n-eq0.false c.if-n-eq0-2.true
+pub returns-then-digits-ne0 : goal.returns-then-digits-ne0
+returns-then-digits-ne0 c =
+    let began = c.in_ok-digits.ensures.cases in
+    elim c.then-digits-ne0.branch [
+      | then-digits-ne0-via-then-digits-ne0 w ↦ formed_odd _ began.0 _ began.1 w.if-digits-ne0.true
+      | then-digits-ne0-via-else-digits-ne0+then-not-all_digits w ↦ formed_even _ began.0 _ began.1 w.if-digits-ne0.false ∙ sym w.if-not-all_digits.ensures
+    ]
 
 pub returns : goal.returns
 returns c =
-    formed_even _ c.if-s-ne58.false c.if-n-eq0.false c.if-n-eq0-2.false _
-    c.all_digits.ensures
+    let began = c.in_ok-digits.ensures.cases in
+    (formed_even _ began.0 _ began.1 c.if-digits-ne0.false ∙ sym c.if-not-all_digits.ensures, began.1)

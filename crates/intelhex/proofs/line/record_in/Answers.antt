@@ -1,46 +1,33 @@
 -- Bad in form, bad in count or sum; else by the type.
-use mathlib.Core.Path.{sym, ◌∙◌}
-use native.Mathlib.Omega.{arith}
-use Rattle.intelhex.proofs.Saying.{rec_unformed, rec_unchecked, long, rec_bytes, rec_end, rec_other}
+use Rattle.std.proofs.Common.{refl, sym, ◌∙◌, arith}
+use Rattle.intelhex.proofs.Saying.{unformed, unchecked, rec_bytes, rec_end, rec_kind, rec_long, rec_placed}
 use Rattle.intelhex.proofs.line.record_in.Goals as goal
+use Rattle.intelhex.proofs.line.record_in.Goals.{in_default-via-in-1+then-count-eq0+else-address-eq0, in_default-via-in-1+else-count-eq0, in_default-via-in_default-1}
 
-pub returns-then-not-formed : goal.returns-then-not-formed
-returns-then-not-formed c = rec_unformed _ (sym c.formed.ensures ∙ c.if-not-formed.true)
+pub returns-in_err-digits : goal.returns-in_err-digits
+returns-in_err-digits c = rw c.from_residual.ensures (unformed _ c.in_err-digits.ensures)
 
 pub returns-then-not-checked : goal.returns-then-not-checked
-returns-then-not-checked c = rec_unchecked _ (sym c.formed.ensures ∙ c.if-not-formed.false) (sym c.checked.ensures ∙ c.if-not-checked.true)
+returns-then-not-checked c = unchecked _ _ c.in_ok-digits.ensures.0 c.in_ok-digits.ensures.1 (sym c.if-not-checked.ensures.value)
 
-pub pair-c-requires : goal.pair-c-requires
-pair-c-requires c = omega (arith, long _ (sym c.checked.ensures ∙ c.if-not-checked.false))
+pub returns-in-0 : goal.returns-in-0
+returns-in-0 c =
+    rec_bytes _ _ c.in_ok-digits.ensures.0 c.in_ok-digits.ensures.1 (sym c.if-not-checked.ensures.value) _ _ _ _ c.pair-count.ensures
+    (c.from.ensures ∙ c.pair.ensures) (c.from-2.ensures ∙ c.pair-2.ensures) c.pair-3.ensures _ _ refl refl refl c.in-0.is
+    (omega (arith, c.from.ensures)) (omega (arith, c.from-2.ensures)) (omega arith)
 
-pub pair-h-requires : goal.pair-h-requires
-pair-h-requires c = omega (arith, long _ (sym c.checked.ensures ∙ c.if-not-checked.false))
+pub returns-in-1 : goal.returns-in-1
+returns-in-1 c =
+    rec_end _ _ c.in_ok-digits.ensures.0 c.in_ok-digits.ensures.1 (sym c.if-not-checked.ensures.value) _ _ _ _ c.pair-count.ensures
+    (c.from.ensures ∙ c.pair.ensures) (c.from-2.ensures ∙ c.pair-2.ensures) c.pair-3.ensures c.in-1.is c.if-count-eq0.true c.if-address-eq0.true
 
-pub pair-l-requires : goal.pair-l-requires
-pair-l-requires c = omega (arith, long _ (sym c.checked.ensures ∙ c.if-not-checked.false))
-
-pub pair-kind-requires : goal.pair-kind-requires
-pair-kind-requires c = omega (arith, long _ (sym c.checked.ensures ∙ c.if-not-checked.false))
-
-pub returns-then-kind-eq0 : goal.returns-then-kind-eq0
-returns-then-kind-eq0 c =
-    rec_bytes _ (sym c.formed.ensures ∙ c.if-not-formed.false)
-    (sym c.checked.ensures ∙ c.if-not-checked.false) _ _ _ _
-    c.pair-c.ensures c.pair-h.ensures c.pair-l.ensures c.pair-kind.ensures
-    c.if-kind-eq0.true (omega arith) (omega arith) (omega arith)
-
-pub returns-then-ends : goal.returns-then-ends
-returns-then-ends c =
-    rec_end _ (sym c.formed.ensures ∙ c.if-not-formed.false)
-    (sym c.checked.ensures ∙ c.if-not-checked.false) _ _ _ _
-    c.pair-c.ensures c.pair-h.ensures c.pair-l.ensures
-    c.pair-kind.ensures
-    c.if-kind-eq0.false (sym c.ends.ensures ∙ c.if-ends.true)
-
-pub returns : goal.returns
-returns c =
-    rec_other _ (sym c.formed.ensures ∙ c.if-not-formed.false)
-    (sym c.checked.ensures ∙ c.if-not-checked.false) _ _ _ _
-    c.pair-c.ensures c.pair-h.ensures c.pair-l.ensures
-    c.pair-kind.ensures
-    c.if-kind-eq0.false (sym c.ends.ensures ∙ c.if-ends.false)
+pub returns-in_default : goal.returns-in_default
+returns-in_default c =
+    elim c.in_default.branch [
+      | in_default-via-in-1+then-count-eq0+else-address-eq0 w ↦ rec_placed _ _ c.in_ok-digits.ensures.0 c.in_ok-digits.ensures.1 (sym c.if-not-checked.ensures.value) _ _ _ _ c.pair-count.ensures
+          (c.from.ensures ∙ c.pair.ensures) (c.from-2.ensures ∙ c.pair-2.ensures) c.pair-3.ensures w.in-1.is w.if-count-eq0.true w.if-address-eq0.false
+      | in_default-via-in-1+else-count-eq0 w ↦ rec_long _ _ c.in_ok-digits.ensures.0 c.in_ok-digits.ensures.1 (sym c.if-not-checked.ensures.value) _ _ _ _ c.pair-count.ensures
+          (c.from.ensures ∙ c.pair.ensures) (c.from-2.ensures ∙ c.pair-2.ensures) c.pair-3.ensures w.in-1.is w.if-count-eq0.false
+      | in_default-via-in_default-1 w ↦ rec_kind _ _ c.in_ok-digits.ensures.0 c.in_ok-digits.ensures.1 (sym c.if-not-checked.ensures.value) _ _ _ _ c.pair-count.ensures
+          (c.from.ensures ∙ c.pair.ensures) (c.from-2.ensures ∙ c.pair-2.ensures) c.pair-3.ensures (λ e. omega (arith, e)) (λ e. omega (arith, e))
+    ]

@@ -1,16 +1,10 @@
-use mathlib.Core.Path.{refl, sym, ◌∙◌}
-use native.Mathlib.Omega.{arith}
-use Rattle.lines.proofs.Numerals.{hex_on, hex_off, hex_end}
+use Rattle.std.proofs.Common.{◌∙◌, ltb, rules, tests}
+use Rattle.std.proofs.lemmas.Iterator.{YieldsList-from_slice}
+use Rattle.std.proofs.lemmas.Iterator.Search.{all_from_yields_List}
+use Rattle.lines.specs.Digits.{digit}
+use Rattle.lines.proofs.Numerals.{hex_all}
 use Rattle.lines.proofs.digits.all_hex.Goals as goal
 
-pub loop-i-init : goal.loop-i-init
-loop-i-init c = (refl, omega arith)
-
-pub returns-then-d-ge16 : goal.returns-then-d-ge16
-returns-then-d-ge16 c = sym (c.loop-i.invariant.0 ∙ hex_off _ _ c.loop-i-test.true (omega arith))
-
-pub loop-i-preserved : goal.loop-i-preserved
-loop-i-preserved c = (c.loop-i.invariant.0 ∙ hex_on _ _ c.loop-i-test.true (omega arith), omega arith)
-
 pub returns : goal.returns
-returns c = sym (c.loop-i.invariant.0 ∙ hex_end _ _ c.loop-i-test.false)
+returns c =
+    all_from_yields_List (λ x. ltb (digit x) 16) _ _ _ c.all.ensures.ran (YieldsList-from_slice c.args.s.now cc) (λ x b q k. search (rules, tests)) ∙ hex_all c.args.s.now

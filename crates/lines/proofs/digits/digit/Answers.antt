@@ -1,26 +1,23 @@
--- By the ranges of characters, one after the other.
-use native.Mathlib.Omega.{arith}
-use Rattle.lines.proofs.Numerals.{by_range}
-use borrow.Author.Tests.{lt-ltb, le-ltb}
+-- By the ranges of characters.
+use Rattle.std.proofs.Common.{arith}
+use Rattle.lines.proofs.Numerals.{digit_low, digit_high, digit_below, digit_between, digit_above}
 use Rattle.lines.proofs.digits.digit.Goals as goal
 
-pub returns-then-c-lt48 : goal.returns-then-c-lt48
-returns-then-c-lt48 c = simp (by_range c.args.c (omega arith), lt-ltb _ _ c.if-c-lt48.true)
+pub returns-in-48-to-57 : goal.returns-in-48-to-57
+returns-in-48-to-57 c =
+    let says = digit_low c.args.c (omega arith) (omega arith) in
+    (omega (arith, says), omega (arith, says))
 
-pub returns-then-c-lt58 : goal.returns-then-c-lt58
-returns-then-c-lt58 c = simp (by_range c.args.c (omega arith), le-ltb _ _ c.if-c-lt48.false, lt-ltb _ _ c.if-c-lt58.true)
+pub returns-in-65-to-70 : goal.returns-in-65-to-70
+returns-in-65-to-70 c =
+    let says = digit_high c.args.c (omega arith) (omega arith) in
+    (omega (arith, says), omega (arith, says))
 
-pub returns-then-c-lt65 : goal.returns-then-c-lt65
-returns-then-c-lt65 c =
-    let ranged = by_range c.args.c (omega arith) in
-    simp (ranged, le-ltb _ _ c.if-c-lt48.false, le-ltb _ _ c.if-c-lt58.false, lt-ltb _ _ c.if-c-lt65.true)
+pub returns-in_default : goal.returns-in_default
+returns-in_default c = λ h. omega (arith, h, digit_below c.args.c (omega arith))
 
-pub returns-then-c-lt71 : goal.returns-then-c-lt71
-returns-then-c-lt71 c =
-    let ranged = by_range c.args.c (omega arith) in
-    simp (ranged, le-ltb _ _ c.if-c-lt48.false, le-ltb _ _ c.if-c-lt58.false, le-ltb _ _ c.if-c-lt65.false, lt-ltb _ _ c.if-c-lt71.true)
+pub returns-in_default-2 : goal.returns-in_default-2
+returns-in_default-2 c = λ h. omega (arith, h, digit_between c.args.c (omega arith) (omega arith))
 
-pub returns : goal.returns
-returns c =
-    let ranged = by_range c.args.c (omega arith) in
-    simp (ranged, le-ltb _ _ c.if-c-lt48.false, le-ltb _ _ c.if-c-lt58.false, le-ltb _ _ c.if-c-lt65.false, le-ltb _ _ c.if-c-lt71.false)
+pub returns-in_default-3 : goal.returns-in_default-3
+returns-in_default-3 c = λ h. omega (arith, h, digit_above c.args.c (omega arith) (omega arith))

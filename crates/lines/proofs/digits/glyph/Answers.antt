@@ -1,5 +1,5 @@
 -- The code's table is the row of digits.
-use mathlib.Core.Path.{refl}
+use Rattle.std.proofs.Common.{refl}
 use Rattle.lines.specs.Digits.{glyph}
 use Rattle.lines.proofs.digits.glyph.Goals as goal
 

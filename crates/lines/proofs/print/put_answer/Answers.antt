@@ -6,4 +6,4 @@ use Rattle.lines.proofs.print.put_answer.Goals as goal
 
 pub returns : goal.returns
 unfolding answer_line show_hex
-returns c = more (more (more c.put_counts-a.ensures c.put_word-b.ensures) c.put_digits-c.ensures) c.put_word.ensures
+returns c = more (more (more c.put_counts-a.ensures c.put_word-b.ensures) (rw c.from.ensures at c.put_digits-c.ensures)) c.put_word.ensures

@@ -1,27 +1,23 @@
 -- The pieces, one after the other.
+use Rattle.std.proofs.Common.{◌≤◌, length, arith}
 use Rattle.lines.specs.Digits.{show_hex}
+use Rattle.lines.specs.Lines.{Part, opening, grom, pad, vdp, reg}
 use Rattle.lines.specs.Shown.{cell_text}
 use Rattle.lines.specs.Meaning.{part_of}
-use Rattle.lines.proofs.Printing.{more, address}
-use Rattle.lines.proofs.Widths.{bounds}
-use borrow.Author.Rules.{rules}
+use Rattle.lines.proofs.Printing.{more, within, address}
 use Rattle.lines.proofs.print.put_cell.Goals as goal
 
-pub put_digits-b-requires : goal.put_digits-b-requires
-put_digits-b-requires c = search (rules, (bounds (part_of c.args.part)).1)
-
-pub put_word-c-requires : goal.put_word-c-requires
-put_word-c-requires c = search (rules, (bounds (part_of c.args.part)).1)
-
-pub put_digits-d-requires : goal.put_digits-d-requires
-put_digits-d-requires c = search (rules, (bounds (part_of c.args.part)).1)
-
-pub put_word-requires : goal.put_word-requires
-put_word-requires c = search (rules, (bounds (part_of c.args.part)).1)
+short : (p : Part) → length (opening p) ≤ 5
+short grom = omega arith
+short pad = omega arith
+short vdp = omega arith
+short reg = omega arith
 
 pub returns : goal.returns
 unfolding cell_text show_hex
 returns c =
-    let number = address (part_of c.args.part) _ c.places-digits.ensures c.put_digits-b.ensures in
-    let two = more c.put_opening-a.ensures number in
-    more (more (more two c.put_word-c.ensures) c.put_digits-d.ensures) c.put_word.ensures
+    let p = part_of c.args.part in
+    let opened = within 5 (short p) (rw c.opening.ensures at c.put_word-a.ensures) in
+    let number = address p _ c.places.ensures (rw c.from.ensures at c.put_digits-b.ensures) in
+    let byte = rw c.from-2.ensures at c.put_digits-d.ensures in
+    more (more (more (more opened number) c.put_word-c.ensures) byte) c.put_word.ensures

@@ -6,4 +6,4 @@ use Rattle.lines.proofs.print.put_pc.Goals as goal
 
 pub returns : goal.returns
 unfolding pc_text show_hex
-returns c = more (more c.put_word-a.ensures c.put_digits-b.ensures) c.put_word.ensures
+returns c = more (more c.put_word-a.ensures (rw c.from.ensures at c.put_digits-b.ensures)) c.put_word.ensures

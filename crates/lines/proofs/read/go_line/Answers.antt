@@ -1,30 +1,33 @@
 -- By the opening: `pc`, or else `run`, or neither.
-use mathlib.Core.Path.{sym, ◌∙◌}
-use Rattle.lines.proofs.Reading.{begins_length, by_pc, by_run, by_none}
-use Rattle.lines.proofs.Said.{says_same, says_bad}
+use Rattle.std.proofs.Common.{sym, ◌∙◌}
+use Rattle.lines.specs.Lines.{jumping, running}
+use Rattle.lines.proofs.Reading.{by_pc, by_run, by_none}
+use Rattle.lines.proofs.Said.{says_none}
 use Rattle.lines.proofs.read.go_line.Goals as goal
 
-pub slice_bounds-pc_line-count : goal.slice_bounds-pc_line-count
-slice_bounds-pc_line-count c = begins_length _ _ (sym c.starts.ensures ∙ c.if-starts.true)
+pub returns-in_err-pc_line : goal.returns-in_err-pc_line
+unfolding jumping
+returns-in_err-pc_line c =
+    let began = c.in-Some.ensures.cases in
+    says_none c.from_residual.ensures (c.in_err-pc_line.ensures ∙ sym (by_pc _ _ began.0 began.1))
 
-pub slice_bounds-pc_line-start : goal.slice_bounds-pc_line-start
-slice_bounds-pc_line-start c = begins_length _ _ (sym c.starts.ensures ∙ c.if-starts.true)
+pub returns-in-Some : goal.returns-in-Some
+unfolding jumping
+returns-in-Some c =
+    let began = c.in-Some.ensures.cases in
+    record { means = c.in_ok-pc_line.ensures ∙ sym (by_pc _ _ began.0 began.1); within = tt }
 
-pub returns-then-starts : goal.returns-then-starts
-returns-then-starts c = says_same (c.pc_line.ensures _) (by_pc _ (sym c.starts.ensures ∙ c.if-starts.true))
+pub returns-in_err-rest : goal.returns-in_err-rest
+returns-in_err-rest c = says_none c.from_residual-in_err-rest.ensures (by_none _ c.args.text.now c.in_default.ensures.cases c.in_err-rest.ensures.cases)
 
-pub slice_bounds-run_line-count : goal.slice_bounds-run_line-count
-slice_bounds-run_line-count c = begins_length _ _ (sym c.starts-2.ensures ∙ c.if-starts-2.true)
-
-pub slice_bounds-run_line-start : goal.slice_bounds-run_line-start
-slice_bounds-run_line-start c = begins_length _ _ (sym c.starts-2.ensures ∙ c.if-starts-2.true)
-
-pub returns-then-starts-2 : goal.returns-then-starts-2
-returns-then-starts-2 c =
-    let no_pc = sym c.starts.ensures ∙ c.if-starts.false in
-    says_same (c.run_line.ensures _) (by_run _ no_pc (sym c.starts-2.ensures ∙ c.if-starts-2.true))
+pub returns-in_err-run_line : goal.returns-in_err-run_line
+unfolding running
+returns-in_err-run_line c =
+    let began = c.in_ok-rest.ensures.cases in
+    says_none c.from_residual-in_err-run_line.ensures (c.in_err-run_line.ensures ∙ sym (by_run _ _ c.in_default.ensures.cases began.0 began.1))
 
 pub returns : goal.returns
+unfolding running
 returns c =
-    let no_pc = sym c.starts.ensures ∙ c.if-starts.false in
-    says_bad _ _ (by_none _ no_pc (sym c.starts-2.ensures ∙ c.if-starts-2.false))
+    let began = c.in_ok-rest.ensures.cases in
+    record { means = c.in_ok-run_line.ensures ∙ sym (by_run _ _ c.in_default.ensures.cases began.0 began.1); within = tt }

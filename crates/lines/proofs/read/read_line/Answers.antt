@@ -1,45 +1,20 @@
--- By the opening: one after the other, until one is there.
-use mathlib.Core.Path.{sym, ◌∙◌}
-use Rattle.lines.proofs.Reading.{begins_length, by_grom, by_pad, by_vdp, by_reg, by_other}
-use Rattle.lines.proofs.Said.{says_same}
+-- By the opening: one part after the other, until one is there, or else as a line that gives no part bytes.
+use Rattle.std.proofs.Common.{◌∙◌, length, arith}
+use Rattle.lines.proofs.Said.{says_same, says_whole}
+use Rattle.lines.proofs.Trying.{tried_all, tried_on, tried_past, tried_none}
 use Rattle.lines.proofs.read.read_line.Goals as goal
 
-pub set_line-requires : goal.set_line-requires
-set_line-requires c = begins_length _ _ (sym c.starts.ensures ∙ c.if-starts.true)
+pub loop-part-init : goal.loop-part-init
+loop-part-init c = tried_all c.args.text.now
 
-pub returns-then-starts : goal.returns-then-starts
-returns-then-starts c = says_same c.set_line.ensures (by_grom _ (sym c.starts.ensures ∙ c.if-starts.true))
+pub returns-in-Some : goal.returns-in-Some
+returns-in-Some c =
+    let began = c.in-Some.ensures.cases in
+    let read = tried_on _ _ _ c.loop-part-test.true _ _ c.opening.ensures began.0 began.1 in
+    says_same (says_whole _ _ (length c.opening.result.now) began.1 (omega (arith, began.2)) c.set_line.ensures) (c.loop-part.invariant ∙ read)
 
-pub set_line-requires-then-starts-2 : goal.set_line-requires-then-starts-2
-set_line-requires-then-starts-2 c = begins_length _ _ (sym c.starts-2.ensures ∙ c.if-starts-2.true)
-
-pub returns-then-starts-2 : goal.returns-then-starts-2
-returns-then-starts-2 c =
-    let no_grom = sym c.starts.ensures ∙ c.if-starts.false in
-    says_same c.set_line-then-starts-2.ensures (by_pad _ no_grom (sym c.starts-2.ensures ∙ c.if-starts-2.true))
-
-pub set_line-requires-then-starts-3 : goal.set_line-requires-then-starts-3
-set_line-requires-then-starts-3 c = begins_length _ _ (sym c.starts-3.ensures ∙ c.if-starts-3.true)
-
-pub returns-then-starts-3 : goal.returns-then-starts-3
-returns-then-starts-3 c =
-    let no_grom = sym c.starts.ensures ∙ c.if-starts.false in
-    let no_pad = sym c.starts-2.ensures ∙ c.if-starts-2.false in
-    says_same c.set_line-then-starts-3.ensures (by_vdp _ no_grom no_pad (sym c.starts-3.ensures ∙ c.if-starts-3.true))
-
-pub set_line-requires-then-starts-4 : goal.set_line-requires-then-starts-4
-set_line-requires-then-starts-4 c = begins_length _ _ (sym c.starts-4.ensures ∙ c.if-starts-4.true)
-
-pub returns-then-starts-4 : goal.returns-then-starts-4
-returns-then-starts-4 c =
-    let no_grom = sym c.starts.ensures ∙ c.if-starts.false in
-    let no_pad = sym c.starts-2.ensures ∙ c.if-starts-2.false in
-    let no_vdp = sym c.starts-3.ensures ∙ c.if-starts-3.false in
-    says_same c.set_line-then-starts-4.ensures (by_reg _ no_grom no_pad no_vdp (sym c.starts-4.ensures ∙ c.if-starts-4.true))
+pub loop-part-preserved : goal.loop-part-preserved
+loop-part-preserved c = c.loop-part.invariant ∙ tried_past _ _ _ c.loop-part-test.true _ c.opening.ensures c.in_default.ensures.cases
 
 pub returns : goal.returns
-returns c =
-    let no_grom = sym c.starts.ensures ∙ c.if-starts.false in
-    let no_pad = sym c.starts-2.ensures ∙ c.if-starts-2.false in
-    let no_vdp = sym c.starts-3.ensures ∙ c.if-starts-3.false in
-    says_same c.go_line.ensures (by_other _ no_grom no_pad no_vdp (sym c.starts-4.ensures ∙ c.if-starts-4.false))
+returns c = says_same c.go_line.ensures (c.loop-part.invariant ∙ tried_none _ _ c.loop-part-test.false)

@@ -1,29 +1,21 @@
--- A line that says nothing, the last line, or one more.
-use mathlib.Core.Path.{refl, sym, ◌∙◌}
-use native.Mathlib.Omega.{arith}
-use Rattle.rig.proofs.Gathering.{no_line, line_fed, line_last, line_any, gathers, says_nothing, line_on, line_end, none_left}
+-- A line that says nothing, one more that says something, and no more lines.
+use Rattle.std.proofs.Common.{sym, arith}
+use Rattle.rig.proofs.Gathering.{says_nothing, line_on, none_left}
 use Rattle.rig.proofs.gather.gather.Goals as goal
 
-pub returns-then-not-take_line : goal.returns-then-not-take_line
-returns-then-not-take_line c =
+pub returns-in_default-take_line : goal.returns-in_default-take_line
+returns-in_default-take_line c =
     record {
-      says = says_nothing _ c.loop-at.invariant.0 (line_any _ _ _ c.find-end.ensures.0 c.loop-at-test.true c.find-end.ensures.1)
-          (sym c.take_line.ensures.says ∙ c.if-not-take_line.true);
+      says = says_nothing c.loop-line.invariant.0 c.in-Some.ensures (sym c.in_default-take_line.ensures.says);
+      counts = omega arith;
       leaves = λ z. absurd (omega arith);
     }
 
-pub returns-then-end-n : goal.returns-then-end-n
-returns-then-end-n c =
-    gathers (line_end _ _ _ c.loop-at.invariant.0 (line_last _ _ _ c.find-end.ensures.0 c.loop-at-test.true c.if-end-n.true)
-    (sym c.take_line.ensures.says ∙ c.if-not-take_line.false) c.take_line.ensures.leaves refl)
-
-pub loop-at-preserved : goal.loop-at-preserved
-loop-at-preserved c = (
-  line_on _ _ _ c.loop-at.invariant.0 (line_fed _ _ _ c.find-end.ensures.0 c.loop-at-test.true (omega (arith, c.find-end.ensures.1, c.if-end-n.false)))
-      (sym c.take_line.ensures.says ∙ c.if-not-take_line.false) c.take_line.ensures.leaves _ refl,
-  omega (arith, c.find-end.ensures.1, c.if-end-n.false),
-  omega (arith, c.find-end.ensures.0, c.loop-at.invariant.2),
+pub loop-line-preserved : goal.loop-line-preserved
+loop-line-preserved c = (
+  line_on c.loop-line.invariant.0 c.in-Some.ensures (sym c.in-Some-take_line.ensures.says) c.in-Some-take_line.ensures.leaves,
+  omega (arith, c.in-Some.ensures.shorter, c.loop-line.invariant.1),
 )
 
 pub returns : goal.returns
-returns c = gathers (none_left c.loop-at.invariant.0 (no_line _ _ c.loop-at-test.false))
+returns c = none_left c.loop-line.invariant.0 c.in_default.ensures

@@ -1,5 +1,5 @@
 -- The pieces, one after the other.
-use native.Mathlib.Omega.{arith}
+use Rattle.std.proofs.Common.{arith}
 use Rattle.lines.specs.Digits.{show_hex}
 use Rattle.lines.proofs.Printing.{more, within}
 use Rattle.rig.specs.Rig.{grom_line}

@@ -1,13 +1,14 @@
 -- Row by row: what is left to print is kept.
-use Rattle.std.proofs.Common.{◌≡◌, ◌-◌, ◌*◌, ◌≤◌, length}
+use Rattle.std.proofs.Common.{◌≡◌, ◌+◌, ◌*◌, ◌/◌, ◌≤◌, length}
+use Rattle.std.specs.Iterator.Adapters.{enumerate_source, enumerate_count}
+use Rattle.std.specs.Slice.Iter.{chunks_exact_rest, chunks_exact_size}
 use Rattle.lines.proofs.Printing.{Owes}
 use Rattle.rig.specs.Rig.{grom_lines}
-use Rattle.rig.proofs.Showing.{left}
 use Rattle.rig.proofs.show.put_image.Given as goal
 
 abbrev pub invariant-loop-k : goal.invariant-loop-k
 invariant-loop-k l =
-    Owes l.initial.out 0 (grom_lines 2048 0 l.image) (left l.image l.k) l.out l.past × (l.k ≤ 2048) × (l.past ≤ l.k * 43) × (length l.out ≡ length l.initial.out)
-
-abbrev pub decreases-loop-k : goal.decreases-loop-k
-decreases-loop-k l = 2048 - l.k
+    let rest = chunks_exact_rest (enumerate_source l.k-iterator) in
+    let k = enumerate_count l.k-iterator in
+    Owes l.initial.out 0 (grom_lines 2048 0 l.image) (grom_lines (length rest / 16) (k * 16) rest) l.out l.past
+    × (chunks_exact_size (enumerate_source l.k-iterator) ≡ 16) × (k * 16 + length rest ≡ 32768) × (l.past ≤ k * 43)

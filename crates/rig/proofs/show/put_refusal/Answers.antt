@@ -1,5 +1,5 @@
 -- The pieces, one after the other.
-use native.Mathlib.Omega.{arith}
+use Rattle.std.proofs.Common.{arith}
 use Rattle.lines.proofs.Printing.{more, within}
 use Rattle.rig.specs.Rig.{refusal}
 use Rattle.rig.proofs.show.put_refusal.Goals as goal
@@ -7,6 +7,7 @@ use Rattle.rig.proofs.show.put_refusal.Goals as goal
 pub returns : goal.returns
 unfolding refusal
 returns c =
-    within 150 (omega arith)
+    rw (← c.meaning.ensures.says, ← c.answer.ensures, ← c.from.ensures, ← c.line.ensures)
+    (within 150 (omega (arith, c.meaning.ensures.fits))
     (more (more (more (more (more (more c.put_word-a.ensures c.put_decimal-b.ensures) c.put_word-c.ensures) c.put_decimal-d.ensures) c.put_word-e.ensures)
-    c.put_meaning-f.ensures) c.put_word.ensures)
+    c.put_word-f.ensures) c.put_word.ensures))

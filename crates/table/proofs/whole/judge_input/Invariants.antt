@@ -1,10 +1,7 @@
--- What is not judged lies within the buffer, and is shorter.
-use Rattle.std.proofs.Common.{◌≡◌, ◌-◌, ◌≤◌, ◌<◌, length}
+-- What is not judged is a part of one line, shorter than its buffer.
+use Rattle.std.proofs.Common.{◌≤◌, length}
+use Rattle.desk.specs.Desk.{longest}
 use Rattle.table.proofs.whole.judge_input.Given as goal
 
-abbrev pub invariant-loop-reads : goal.invariant-loop-reads
-invariant-loop-reads g l =
-    (l.from ≤ l.have) × (l.have ≤ length l.lines) × (l.have - l.from < length l.lines) × (length l.lines ≡ 65547) × (length l.text ≡ length l.initial.text)
-
-abbrev pub decreases-loop-reads : goal.decreases-loop-reads
-decreases-loop-reads g l = 18446744073709551615 - l.reads
+abbrev pub invariant-loop : goal.invariant-loop
+invariant-loop g l = length l.pending ≤ longest
