@@ -1,7 +1,5 @@
 -- What the proofs share.
-use mathlib.Core.Bool.{Bool, true, false}
-use Prim.Native.Nat.{◌<◌}
-use native.Mathlib.Omega.{arith}
+use Rattle.std.proofs.Common.{◌<◌, Bool, true, false, arith}
 use Rattle.rules.specs.Arithmetic.{half, span}
 
 -- the largest step of INC to DECT is a number of each width

@@ -1,4 +1,9 @@
 -- The code's operations and effects, in the words of the rules.
+use Rattle.std.specs.Prelude.{ℕ}
+use Rattle.rules.specs.Machine.{cpu, status}
+use Rattle.rules.specs.Rules.{Deed, ◌>>=◌, ◌>>◌, poke}
+use Rattle.rules.specs.Operands.{Width, byte_count, Cell, past, standing}
+use Rattle.rules.specs.Instructions.{div_status, divided}
 use Rattle.rules.specs.Opcodes as opcodes
 use Rattle.rules.specs.Arithmetic as arithmetic
 use Rattle.arith.specs.declared.effects.One.{One}
@@ -42,3 +47,10 @@ effect_of (Both s v) = arithmetic.both s v
 effect_of (Only v) = arithmetic.only v
 effect_of (Flags s) = arithmetic.flags s
 effect_of (Condition c) = arithmetic.condition c
+
+-- what DIV does once its operands are read
+unfoldable pub div_by : Width → Cell → ℕ → ℕ → Deed
+div_by w c upper b = do
+  poke cpu status (div_status w)
+  lower ← standing w (past (byte_count w) c)
+  divided w c upper lower b

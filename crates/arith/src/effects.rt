@@ -73,6 +73,7 @@ fn logical(wide: bool, res: u16) -> Effect
     Effect::Both(status, res)
 }
 
+#[tactic(auto, using(crate::proofs::Laws::two_below), unfolding(rules::specs::Arithmetic::one_effect))]
 pub fn one_effect(op: One, wide: bool, v: u16) -> Effect
     requires { v < span (half wide) }
     ensures { effect_of result ≡ one_effect (one_of op) wide v }
@@ -91,6 +92,7 @@ pub fn one_effect(op: One, wide: bool, v: u16) -> Effect
 }
 
 // a is the destination's value, b the source's.
+#[tactic(auto, unfolding(rules::specs::Arithmetic::two_effect))]
 pub fn two_effect(op: Two, wide: bool, a: u16, b: u16) -> Effect
     requires { (a < span (half wide)) × (b < span (half wide)) }
     ensures { effect_of result ≡ two_effect (two_of op) wide a b }

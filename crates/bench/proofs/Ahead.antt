@@ -1,11 +1,5 @@
 -- A run, step by step: what is left, run now, with the counts so far, is the whole.
-use mathlib.Core.Path.{◌≡◌, refl, ◌∙◌, ap, ap₂, sym, subst}
-use mathlib.Core.Bool.{Bool, true, false}
-use mathlib.Core.List.{List, append-nil}
-use Prim.Native.Nat.{ℕ, zero, suc, ◌+◌, ◌-◌, ◌*◌, ◌≤◌, ◌<◌}
-use native.Mathlib.Omega.{arith}
-use lib.ListN.{length}
-use borrow.Author.Tests.{eq-eqb, ne_eqb}
+use Rattle.std.proofs.Common.{◌≡◌, refl, ◌∙◌, ap, ap₂, sym, subst, Bool, true, false, List, append-nil, ℕ, zero, suc, ◌+◌, ◌-◌, ◌*◌, ◌≤◌, ◌<◌, arith, length, eq-eqb, ne_eqb}
 use Rattle.rules.specs.Machine.{State}
 use Rattle.rules.specs.Answers.{Answer, saying, well, answer_for, wrong_length}
 use Rattle.rules.specs.Calls.{instruction, fits, Reply, left, step, step_stores, made, Report, report, steps, run}
@@ -19,7 +13,8 @@ use Rattle.bench.specs.declared.walk.Reply as walk
 use Rattle.bench.specs.declared.runs.Report as runs
 use Rattle.bench.specs.Meaning.{state_at, Returned, returned, leaves, told, marking, settling, stepping, reported, no_steps, Tells}
 use Rattle.bench.proofs.Replies.{accepts, refuses, counts}
-use Rattle.bench.proofs.Steps.{AreBytes, bytes_of, step_fits, marked_append}
+use Rattle.rules.proofs.Reading.{marked_append}
+use Rattle.bench.proofs.Steps.{AreBytes, bytes_of, step_fits}
 
 -- k steps with n stores, and then a run
 abbrev ahead : ℕ → ℕ → Report → Report
@@ -136,12 +131,12 @@ pub stops : {n : ℕ} {s₀ : State} {k c : ℕ} {s : State} {i p v g j : List �
     → Tells reported (steps n) s₀ (returned i p v g j (record { answer = r.answer; address = r.address; steps = k; stores = c; at = r.at }))
 stops u e l h = record { is = breaks_off u e l h }
 
-pub ends : {n : ℕ} {s₀ : State} {k c : ℕ} {i p v g j : List ℕ} {at : At} → Underway n s₀ k c (state_at i p v g j at) → n ≤ k
-    → Tells reported (steps n) s₀ (returned i p v g j (record { answer = 0; address = 0; steps = k; stores = c; at = at }))
+pub ends : {n : ℕ} {s₀ : State} {k m c : ℕ} {i p v g j : List ℕ} {at : At} → Underway n s₀ k c (state_at i p v g j at) → n ≤ k → m ≡ n
+    → Tells reported (steps n) s₀ (returned i p v g j (record { answer = 0; address = 0; steps = m; stores = c; at = at }))
 unfolding steps
-ends {n} {k = k} {i = i} {p = p} {v = v} {g = g} {j = j} {at = at} u l =
+ends {n} {k = k} {i = i} {p = p} {v = v} {g = g} {j = j} {at = at} u l e =
     let none : n - k ≡ 0 = omega arith in
-    record { is = recount well (state_at i p v g j at) (omega arith) (omega arith) ∙ (rw none at u.whole) }
+    record { is = recount well (state_at i p v g j at) (omega (arith, u.made, e)) (omega arith) ∙ (rw none at u.whole) }
 
 -- ---- the call
 

@@ -1,29 +1,27 @@
 -- A tick in the code's words: as a step, and what it leaves of the output, done and refused.
-use mathlib.Core.Path.{◌≡◌, refl, ◌∙◌, ap, ap₂, sym, subst}
-use mathlib.Core.Bool.{Bool, true, false}
-use mathlib.Core.List.{List, [], ◌∷◌, ◌++◌}
-use Prim.Native.Nat.{ℕ, zero, suc, ◌+◌, ◌≤◌, ◌<◌}
-use native.Mathlib.Numerals.{add-one}
-use native.Mathlib.Omega.{arith}
-use lib.ListN.{length, set, drop, replicate}
-use lib.Seq.{drop-append_seam}
-use Rattle.rules.specs.Machine.{State, flagged}
-use Rattle.rules.specs.Answers.{answer_for, wrong_length}
-use Rattle.rules.specs.Journal.{Store}
-use Rattle.rules.specs.Rules.{Out, got, stopped, then, sends}
-use Rattle.rules.specs.Sound.{Source, tick_rule}
-use Rattle.rules.specs.Calls.{tick, fits, done, refused, take_mark, attempt, settle, fit_step, step, step_stores, tick_sent, tick_output}
-use Rattle.machine.specs.declared.state.Now.{Now}
-use Rattle.machine.specs.Meaning.{Stand, standing, out_of, began}
-use Rattle.sound.specs.Meaning.{Lays}
-use Rattle.sound.proofs.Chain.{played}
+use Rattle.std.proofs.Common.{◌≡◌, refl, ◌∙◌, ap, ap₂, sym, subst, Result, Ok, Err, Bool, true, false, List, ◌++◌, ℕ, ◌+◌, ◌-◌, ◌≤◌, arith, length, drop, replicate}
+use Rattle.std.proofs.Math.Seq.{drop-append_seam}
+use Rattle.rules.specs.Machine.{Mem, State}
+use Rattle.rules.specs.Answers.{Answer, answer_for, wrong_length}
+use Rattle.rules.specs.Rules.{got, stopped}
+use Rattle.rules.specs.Sound.{Source}
+use Rattle.rules.specs.Calls.{tick, fits, attempt, fit_step, step, tick_sent, tick_output}
+use Rattle.machine.specs.declared.answers.Why.{Why}
+use Rattle.machine.specs.declared.state.Machine.{Machine}
+use Rattle.machine.specs.Meaning.{ending, state, left}
+use Rattle.machine.proofs.Laws.{out_of}
+use Rattle.sound.specs.Meaning.{Written, laid, writing}
+use Rattle.sound.proofs.Laws.{laid_first}
+use Rattle.sound.specs.declared.list.Output.{Output}
 use Rattle.bench.specs.declared.at.At.{At}
 use Rattle.bench.specs.declared.walk.Reply as walk
 use Rattle.bench.specs.declared.ticks.Ticked.{Ticked}
-use Rattle.bench.specs.Meaning.{count_at, Lends, state_at, Returned, returned, Outcome, told, refusal, settled, beginning, settling, stepping}
+use Rattle.bench.specs.Meaning.{state_at, Returned, returned, Outcome, told, refusal, settling, stepping}
+use Rattle.bench.specs.Making.{Stands, trying_tick, sends_from, Adds, state_in}
 use Rattle.bench.specs.Meaning.{Heard, replied, heard, heard_as, fit_ticking, ticking, Tells}
-use Rattle.bench.proofs.Replies.{accepts, refuses, same_told}
-use Rattle.bench.proofs.Steps.{mark_of, step_unfit, step_fits}
+use Rattle.bench.proofs.Beginning.{said, tick_map, as_tick, sent_is}
+use Rattle.bench.proofs.Replies.{same_told}
+use Rattle.bench.proofs.Steps.{step_unfit, step_fits}
 
 abbrev hearing : Outcome → ℕ → List ℕ → Heard
 hearing a n o = record { outcome = a; sent = n; output = o }
@@ -41,53 +39,54 @@ with_sent x n = returned x.image x.pad x.vram x.regs x.journal (heard_as x.resul
 abbrev Sent : List ℕ → ℕ → List ℕ → List ℕ → Type 0
 Sent bs l o p = (l ≡ length bs) × (l ≤ length o) × (p ≡ bs ++ drop (length bs) o)
 
--- past the mark, the tick's rule sends what the rules say of the tick
-pub tick_sends : (i p v g j : List ℕ) (at : At) {n : Now} {t u : Stand} {f : Source} {l : ℕ} {o q d : List ℕ} → n ≡ began at.pc (count_at at) → at.used ≤ length j → Lends d j at
-    → out_of t ≡ then (out_of (standing i [] at.writable p v g j d at.used at.place n)) (λ _ pc₂ m₂. take_mark (flagged at.pc at.source) pc₂ m₂)
-    → Lays t (tick_rule (length o) at.source) f u 0 l o q → Sent (tick_sent (length o) (state_at i p v g j at)) l o q
-unfolding tick_sent
-tick_sends i p v g j at {l = l} {o = o} {q = q} b z r e y =
-    subst (λ (bs : List ℕ). Sent bs l o q) (ap (λ (x : Out (Unit {0})). sends x (tick_rule (length o) at.source)) (e ∙ mark_of i p v g j at b z r)) (played y)
-
--- ---- the output wiped
-
-wiped_next : (k : ℕ) (o : List ℕ) → k < length o → set (replicate k 0 ++ drop k o) k 0 ≡ replicate (suc k) 0 ++ drop (suc k) o
-wiped_next zero [] h = absurd (omega arith)
-wiped_next zero (x ∷ o) h = refl
-wiped_next (suc k) [] h = absurd (omega arith)
-wiped_next (suc k) (x ∷ o) h = ap (λ (l : List ℕ). 0 ∷ l) (wiped_next k o (omega arith))
-
-pub wiped_more : (k : ℕ) (o p : List ℕ) → p ≡ replicate k 0 ++ drop k o → k < length o → set p k 0 ≡ replicate (k + 1) 0 ++ drop (k + 1) o
-wiped_more k o p e h = rw (add-one k) (ap (λ (l : List ℕ). set l k 0) e ∙ wiped_next k o h)
+-- so is what was added to an output of which no byte was in use
+pub as_sent : (bs : List ℕ) {o p : Output} → o.sent ≡ 0 → Adds bs o p → Sent bs p.sent o.bytes.now p.bytes.now
+unfolding writing
+as_sent bs {o} {p} z h =
+    let sent : p.sent ≡ o.sent + length bs = ap (λ (w : Written). w.used) h.0 in
+    let within : p.sent ≤ length o.bytes.now = omega (arith, h.1.long, h.1.fits (omega (arith, z))) in
+    let whole : p.bytes.now ≡ laid 0 bs o.bytes.now = rw z at (ap (λ (w : Written). w.bytes) h.0) in
+    (omega (arith, sent, z), within, whole ∙ laid_first bs o.bytes.now (omega (arith, sent, within)))
 
 -- ---- done, or refused
 
-settled_reply : (s : State) (o : Out Source) (ss : List Store) → settle s o ≡ (settled s o ss).reply
-settled_reply s (got f pc m) ss = refl
-settled_reply s (stopped a m) ss = refl
-
-module _ (o : List ℕ) {s : State} {x : Returned walk.Reply} (e : Tells told (beginning (tick_rule (length o) s.source) s.pc) s x) where
-  as_tick : Tells told (settling (tick (length o))) s x
-  unfolding attempt step_stores
-  as_tick = record { is = e.is }
-
-  fit_reply : fit_step (tick (length o)) s ≡ (settling (tick (length o)) s).reply
+module _ (o : List ℕ) (s : State) {x : Returned walk.Reply} (e : Tells told (settling (tick (length o))) s x) where
+  pub tick_done : {v : Source} {pc n : ℕ} {m : Mem} {q : List ℕ} → attempt (tick (length o)) s ≡ got v pc m → Sent (tick_sent (length o) s) n o q
+      → Tells (heard q) (fit_ticking o) s (with_sent x n)
   unfolding fit_step
-  fit_reply = settled_reply s (attempt (tick (length o)) s) (step_stores (tick (length o)) s)
+  tick_done z k = record { is = same_heard e.is (rw z k.0) (rw z k.2) }
 
-  pub tick_done : {n : ℕ} {q : List ℕ} → x.result.answer ≡ 0 → Sent (tick_sent (length o) s) n o q → Tells (heard q) (fit_ticking o) s (with_sent x n)
-  tick_done z k =
-      let r : fit_step (tick (length o)) s ≡ done _ = fit_reply ∙ accepts as_tick z in
-      record { is = same_heard as_tick.is (rw r k.0) (rw r k.2) }
-
-  pub tick_refused : {n : ℕ} {q t : List ℕ} → (x.result.answer ≡ 0 → ⊥) → Sent (tick_sent (length o) s) n o q → t ≡ replicate n 0 ++ drop n q
-      → Tells (heard t) (fit_ticking o) s (with_sent x 0)
-  tick_refused {n} {q} {t} h k w =
+  pub tick_refused : {a : Answer} {m : Mem} {n : ℕ} {q t : List ℕ} → attempt (tick (length o)) s ≡ stopped a m → Sent (tick_sent (length o) s) n o q
+      → t ≡ replicate n 0 ++ drop n q → Tells (heard t) (fit_ticking o) s (with_sent x 0)
+  unfolding fit_step
+  tick_refused {n = n} {q = q} {t = t} z k w =
       let bs : List ℕ = tick_sent (length o) s in
-      let r : fit_step (tick (length o)) s ≡ refused _ _ = fit_reply ∙ refuses as_tick h in
       let behind : drop n q ≡ drop (length bs) o = ap₂ (λ (m : ℕ) (l : List ℕ). drop m l) k.0 k.2 ∙ drop-append_seam bs (drop (length bs) o) in
       let whole : t ≡ replicate (length bs) 0 ++ drop (length bs) o = w ∙ ap₂ (λ (m : ℕ) (l : List ℕ). replicate m 0 ++ l) k.0 behind in
-      record { is = same_heard as_tick.is (rw r) (rw r whole) }
+      record { is = same_heard e.is (rw z refl) (rw z whole) }
+
+-- the same of a machine at `at`, by what was tried on it
+module _ {at : At} {m : Machine} (b : Stands at m) (t : Result Bool Why) (n : Machine) (o p : Output) (z : o.sent ≡ 0)
+    (e : trying_tick (length o.bytes.now - o.sent) at.source (state m) ≡ left t (state n)) where
+  abbrev way : ℕ
+  way = length o.bytes.now
+
+  pub tick_ends : ending (attempt (tick way) (state_in m at)) (tick_map b way) ≡ left t (state n)
+  tick_ends = as_tick b way (omega (arith, z)) e
+
+  module _ (h : Adds (sends_from (length o.bytes.now - o.sent) at.source (state m)) o p) {x : Returned walk.Reply} (k : Tells told (settling (tick way)) (state_in m at) x) where
+    heard_sent : Sent (tick_sent way (state_in m at)) p.sent o.bytes.now p.bytes.now
+    heard_sent = subst (λ (bs : List ℕ). Sent bs p.sent o.bytes.now p.bytes.now) (sent_is b way (omega (arith, z))) (as_sent _ z h)
+
+    opens : {u : Result Bool Why} → t ≡ u → attempt (tick way) (state_in m at) ≡ out_of (left u (state n))
+    opens q = sym (said (attempt (tick way) (state_in m at)) (tick_map b way)) ∙ ap out_of tick_ends ∙ ap (λ (t : Result Bool Why). out_of (left t (state n))) q
+
+    pub machine_done : {v : Source} → t ≡ Ok v → Tells (heard p.bytes.now) (fit_ticking o.bytes.now) (state_in m at) (with_sent x p.sent)
+    machine_done q = tick_done o.bytes.now (state_in m at) k (opens q) heard_sent
+
+    pub machine_refused : {why : Why} {q : List ℕ} → t ≡ Err why → q ≡ replicate p.sent 0 ++ drop p.sent p.bytes.now
+        → Tells (heard q) (fit_ticking o.bytes.now) (state_in m at) (with_sent x 0)
+    machine_refused q w = tick_refused o.bytes.now (state_in m at) k (opens q) heard_sent w
 
 -- ---- the call
 

@@ -1,12 +1,5 @@
 -- The ring that is lent a step: beside it the journal is seen as it is at rest, at each point it is as long as it was, and its words have room.
-use mathlib.Core.Path.{◌≡◌, refl, ◌∙◌, ap, sym}
-use mathlib.Core.Bool.{Bool, true, false}
-use mathlib.Core.List.{List, [], ◌∷◌}
-use Prim.Native.Nat.{ℕ, ◌+◌, ◌-◌, ◌%◌, ◌≤◌, ◌<◌}
-use native.Mathlib.Omega.{arith}
-use lib.Dec.{ltb}
-use lib.ListN.{length, get_or, take, length-take}
-use borrow.Author.Tests.{ltb-true, ltb-false}
+use Rattle.std.proofs.Common.{◌≡◌, refl, ◌∙◌, ap, sym, Bool, true, false, List, [], ◌∷◌, ℕ, ◌+◌, ◌-◌, ◌%◌, ◌≤◌, ◌<◌, arith, ltb, length, get_or, take, length-take, ltb-true, ltb-false}
 use Rattle.rules.specs.Machine.{pick, Mem}
 use Rattle.rules.specs.Journal.{turned, until_mark}
 use Rattle.rules.proofs.Forget.{length_forget, until_within}

@@ -1,8 +1,12 @@
-pub mod Lending
-pub mod Links
-pub mod Replies
-pub mod Steps
 pub mod Ahead
+pub mod Beginning
 pub mod Heard
+pub mod Lending
+pub mod Lent
+pub mod Links
 pub mod Promises
+pub mod Replies
 pub mod Sequence
+pub mod Settling
+pub mod Steps
+pub mod Trying

@@ -1,22 +1,15 @@
 -- The public calls in the code's words: one law for each way out of them.
-use mathlib.Core.Path.{◌≡◌, refl, ◌∙◌, ap, sym}
-use mathlib.Core.Bool.{Bool, true, false}
-use mathlib.Core.List.{List, []}
-use Prim.Native.Nat.{ℕ, ◌+◌, ◌-◌, ◌<◌}
-use native.Mathlib.Omega.{arith}
-use lib.Dec.{eqb, leb}
-use lib.ListN.{length, take, drop}
+use Rattle.std.proofs.Common.{◌≡◌, refl, ◌∙◌, ap, sym, Bool, true, false, List, [], ℕ, ◌+◌, ◌-◌, ◌<◌, arith, eqb, leb, length, take, drop, ne_eqb, eq-eqb, leb-true, leb-false, eqb-true}
 use Rattle.std.specs.Borrow.{MutBor}
-use borrow.Author.Tests.{ne_eqb, eq-eqb, leb-true, leb-false, eqb-true}
 use Rattle.rules.specs.Machine.{pick, ◌also◌, cpu, vdp, register, size, reach, area_of, flagged, Mem, State, state, at_rest}
 use Rattle.rules.specs.Answers.{answer_for, wrong_length, no_record}
 use Rattle.rules.specs.Journal.{undo, turned}
-use Rattle.rules.specs.Calls.{parts_fit, fits, done, Find, scan, back_to, fit_back, step_back, Memory, kind_of, viewed, view}
+use Rattle.rules.specs.Calls.{parts_fit, fits, done, Find, found, lost, scan, back_to, fit_back, step_back, Memory, kind_of, viewed, view}
 use Rattle.rules.proofs.Tests.{both}
 use Rattle.rules.proofs.Steps.{flagged_parts}
 use Rattle.ring.specs.declared.book.Book.{Book}
 use Rattle.ring.proofs.Turned.{length_turned}
-use Rattle.machine.specs.Meaning.{mem_of, found_at}
+use Rattle.machine.specs.Meaning.{mem_of}
 use Rattle.bench.specs.declared.at.At.{At}
 use Rattle.bench.specs.declared.walk.Reply as walk
 use Rattle.bench.specs.Meaning.{book_at, rests, state_at, Fit, Returned, returned, outcome, replies, told, refusal, undoing, backing, Tells, part}
@@ -24,21 +17,21 @@ use Rattle.bench.specs.Meaning.{book_at, rests, state_at, Fit, Returned, returne
 -- ---- a step back
 
 module _ {i p v g : List ℕ} (j : List ℕ) {at : At} {b : Book} (q : b ≡ book_at at) where
-  pub back_lost : {n : ℕ} (a : ℕ) → found_at n a ≡ scan (area_of (length i) at.writable) b.used (turned b.ring b.place j) → n ≡ 0
+  pub back_lost : lost ≡ scan (area_of (length i) at.writable) b.used (turned b.ring b.place j)
       → Tells told undoing (state_at i p v g j at) (returned i p v g j (refusal (answer_for no_record) at))
-  unfolding fit_back replies found_at
-  back_lost a e h = record { is = ap (λ (f : Find). outcome (back_to f (state_at i p v g j at)) 0) (rw (h, q) at e) }
+  unfolding fit_back replies
+  back_lost e = record { is = ap (λ (f : Find). outcome (back_to f (state_at i p v g j at)) 0) (rw q at e) }
 
   pub back_found : {w : ℕ} {i₁ p₁ v₁ g₁ j₁ : List ℕ} {n pc : ℕ} {f : Bool} {c : Book}
-      → pc < 65536 → found_at n (flagged pc f) ≡ scan (area_of (length i) at.writable) b.used (turned b.ring b.place j) → (n ≡ 0 → ⊥)
+      → pc < 65536 → found n (flagged pc f) ≡ scan (area_of (length i) at.writable) b.used (turned b.ring b.place j)
       → mem_of i₁ w p₁ v₁ g₁ j₁ c ≡ undo n (mem_of i at.writable p v g j b)
       → Tells told undoing (state_at i p v g j at) (returned i₁ p₁ v₁ g₁ j₁ (record { answer = 0; address = 0; stores = 0; at = rests pc c w f }))
-  unfolding fit_back replies found_at
-  back_found {n = n} {pc = pc} {f = f} l e h k =
+  unfolding fit_back replies
+  back_found {pc = pc} {f = f} l e k =
       record {
         is = ap (λ (m : Mem). outcome (done (state pc f (at_rest m))) 0) (rw q at k)
             ∙ ap (λ (s : State). outcome (done s) 0) (sym (flagged_parts pc f _ l))
-            ∙ ap (λ (f : Find). outcome (back_to f (state_at i p v g j at)) 0) (rw (ne_eqb n 0 h, q) at e);
+            ∙ ap (λ (f : Find). outcome (back_to f (state_at i p v g j at)) 0) (rw q at e);
       }
 
 pub back_unfit : {i p v g j : List ℕ} {at : At} {t : Bool} → t ≡ fits (state_at i p v g j at).mem → t ≡ false

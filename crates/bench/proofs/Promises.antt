@@ -1,9 +1,5 @@
 -- The demands, of the public calls. A hypothesis `Tells told stepping ..` is the contract of `step`, of a state lent and what it returned; so for the others.
-use mathlib.Core.Path.{◌≡◌, refl, ◌∙◌, ap, sym, subst}
-use mathlib.Core.Bool.{Bool, true, false}
-use mathlib.Core.List.{List}
-use Prim.Native.Nat.{ℕ}
-use native.Mathlib.Omega.{arith}
+use Rattle.std.proofs.Common.{◌≡◌, refl, ◌∙◌, ap, sym, subst, Bool, true, false, List, ℕ, arith}
 use Rattle.rules.specs.Machine.{pick, area, State}
 use Rattle.rules.specs.Answers.{saying, answer_for, wrong_length}
 use Rattle.rules.specs.Calls.{Way, fits, Reply, done, refused, made, Report, report, run, Find, found, lost, scan, back_to, fit_back, step_back, Memory, view}

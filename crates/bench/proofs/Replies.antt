@@ -1,9 +1,5 @@
 -- What a reply tells: the rules' answer, the state that it leaves, and its stores; and that nothing else could have told the same.
-use mathlib.Core.Path.{◌≡◌, refl, ◌∙◌, ap, ap₂, sym}
-use Prim.Native.Nat.{ℕ, zero, suc}
-use native.Mathlib.Omega.{arith}
-use borrow.Author.Tests.{ne_eqb}
-use mathlib.Core.List.{List}
+use Rattle.std.proofs.Common.{◌≡◌, refl, ◌∙◌, ap, ap₂, sym, ℕ, zero, suc, arith, ne_eqb, List}
 use Rattle.rules.specs.Machine.{Mem, State}
 use Rattle.rules.specs.Answers.{saying}
 use Rattle.rules.specs.Calls.{done, refused, answer, left}

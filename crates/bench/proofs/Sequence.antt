@@ -1,12 +1,6 @@
 -- Demand 3, of any sequence of calls. They lead where steps and step-backs of the rules lead, by induction on the calls; and what they say counts what the rules keep.
-use mathlib.Core.Path.{◌≡◌, refl, ◌∙◌, ap, sym, subst}
-use mathlib.Core.Bool.{Bool, true, false}
-use mathlib.Core.List.{List, [], ◌∷◌, ◌++◌}
-use Prim.Native.Nat.{ℕ, zero, suc, ◌+◌, ◌-◌}
-use native.Mathlib.Omega.{arith}
-use lib.Dec.{eqb}
-use lib.ListN.{length, drop, length-append, length-map, length-replicate}
-use borrow.Author.Tests.{ne_eqb}
+use Rattle.std.proofs.Common.{◌≡◌, refl, ◌∙◌, ap, sym, subst, Bool, true, false, List, [], ◌∷◌, ◌++◌, ℕ, zero, suc, ◌+◌, ◌-◌, arith, eqb, length, drop, length-append, ne_eqb}
+use Rattle.std.proofs.Math.ListN.{length-map, length-replicate}
 use Rattle.rules.specs.Machine.{pick, State}
 use Rattle.rules.specs.Answers.{Answer, saying}
 use Rattle.rules.specs.Journal.{word_of}

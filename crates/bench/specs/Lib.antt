@@ -1,2 +1,3 @@
+pub mod Making
 pub mod Meaning
 pub mod Promised

@@ -1,20 +1,16 @@
 -- What the public calls take and hand back, in the words of the rules.
-use Rattle.std.specs.Prelude.{◌≡◌, true, List, [], ℕ, ◌-◌, ◌^◌, ◌≤◌, ◌<◌, eqb, leb, length, take, drop}
+use Rattle.std.specs.Prelude.{◌≡◌, true, List, [], Option, None, Some, ℕ, ◌+◌, ◌-◌, ◌%◌, ◌^◌, ◌≤◌, ◌<◌, eqb, leb, length, take, drop}
 use Rattle.std.specs.Borrow.{MutBor}
-use Rattle.rules.specs.Machine.{pick, Mem, State, state, address, at_rest}
+use Rattle.rules.specs.Machine.{pick, State, state}
 use Rattle.rules.specs.Answers.{Answer, saying}
 use Rattle.rules.specs.Journal.{Store}
-use Rattle.rules.specs.Rules.{Rule, Out, got, stopped, valued}
-use Rattle.rules.specs.Opcodes.{Task}
+use Rattle.rules.specs.Rules.{Out, got, stopped}
 use Rattle.rules.specs.Sound.{Source}
-use Rattle.rules.specs.Tasks.{rule_of, go, keeping}
 use Rattle.rules.specs.Calls as calls
-use Rattle.rules.specs.Reads.{begin_reads, attempt_reads, marked, mapped_run, map_left}
-use Rattle.rules.specs.Demands.{Good}
+use Rattle.rules.specs.Reads.{attempt_reads, marked, mapped_run, map_left}
 use Rattle.ring.specs.declared.book.Book.{Book}
-use Rattle.ring.specs.Meaning.{seen, lent_by}
-use Rattle.machine.specs.declared.state.Now.{Now}
-use Rattle.machine.specs.Meaning.{IsPad, IsVram, IsRegs, Lent, Parts, Rest, before, after', answer_of, mem_of, mem_before, seen_before, unmapped, Stand, stand, out_of}
+use Rattle.ring.specs.Meaning.{lent_by}
+use Rattle.machine.specs.Meaning.{IsPad, IsVram, IsRegs, Lent, Parts, Rest, after', mem_of, mem_before, unmapped}
 use Rattle.bench.specs.declared.at.At.{At}
 use Rattle.bench.specs.declared.walk.Reply as walk
 use Rattle.bench.specs.declared.runs.Report as runs
@@ -32,7 +28,11 @@ book_at at = record { used = at.used; older = at.used; place = at.place; ring = 
 abbrev pub count_at : At → ℕ
 count_at at = pick at.ring 0 at.used
 
--- the ring that is lent it beside a journal of n words
+-- of a ring of n words where its first word goes
+abbrev pub first_at : ℕ → At → Option ℕ
+first_at n at = pick at.ring (Some ((at.place + at.used) % n)) None
+
+-- the ring that it has beside a journal of n words
 abbrev pub ring_at : ℕ → At → List ℕ
 ring_at n at = lent_by n (book_at at)
 
@@ -53,7 +53,7 @@ pub record Fit (p v g j : MutBor (List ℕ)) (at : At) : Type 0 where
   pub regs : IsRegs g.now
   pub used : at.used ≤ length j.now
 
--- beside the journal its ring is lent; no slice of words is as long as this
+-- beside the journal stands its ring; no slice of words is as long as this
 pub record Lends (r j : List ℕ) (at : At) : Type 0 where
   pub ring : r ≡ ring_at (length j) at
   pub long : length j < 2 ^ 61
@@ -117,14 +117,6 @@ abbrev pub settled : State → Out Source → List Store → Outcome
 settled s (got f pc m) ss = outcome (calls.settle s (got f pc m)) (length ss)
 settled s (stopped a m) ss = outcome (calls.settle s (stopped a m)) 0
 
--- the mark and a rule, where pc is pc₁: past the opcode, if one was read
-abbrev pub beginning : Rule Source → ℕ → State → Outcome
-beginning r pc₁ s = settled s (calls.begin (address s) (go r) pc₁ (at_rest s.mem)) (calls.begin_stores (address s) (go r) pc₁ (at_rest s.mem))
-
--- a task's, which leaves the flag as it is
-abbrev pub doing : Task → At → Rule Source
-doing t at = keeping at.source (rule_of t)
-
 -- a step past test 11
 abbrev pub settling : calls.Way → State → Outcome
 settling w s = settled s (calls.attempt w s) (calls.step_stores w s)
@@ -146,10 +138,6 @@ backing s = outcome (calls.step_back s) 0
 -- they are marked in a map
 abbrev pub marking : (State → List ℕ) → List ℕ → State → List ℕ
 marking f z s = marked (f s) z
-
--- by a rule past the mark, where pc is pc₁
-abbrev pub beginning_reads : Rule Source → ℕ → State → List ℕ
-beginning_reads r pc₁ s = begin_reads (address s) (go r) pc₁ (at_rest s.mem)
 
 -- ---- a run: the rules' report
 
@@ -198,30 +186,6 @@ ticking o s =
 pub record Tells {A B : Type 0} (say : Returned A → B) (f : State → B) (s : State) (x : Returned A) : Type 0 where
   pub is : say x ≡ f s
 
--- the mark and a rule have brought a machine from pc₁ to where it stands, and the rule gives the source flag f
-pub record Tries (r : Rule Source) (f : Source) (pc₁ : ℕ) (s : State) (e : Stand) : Type 0 where
-  pub is : valued f (out_of e) ≡ calls.begin (address s) (go r) pc₁ (at_rest s.mem)
-
--- the state from which that was tried
-pub record Before (at : At) (s : State) : Type 0 where
-  pub pc : s.pc ≡ at.pc
-  pub source : s.source ≡ at.source
-  pub good : Good s
-  pub used : s.mem.used ≤ length s.mem.journal
-
--- the journal as the rules have it where such an attempt has come to m
-abbrev pub seen_at : List ℕ → List ℕ → At → Now → Mem
-seen_at j r at m = seen j r at.used at.place m.used
-
--- what it leaves of a journal: its own words are above the older ones, all have room, and where it was not refused there is a mark
-pub record Begun (j r : MutBor (List ℕ)) (at : At) (m : Now) : Type 0 where
-  pub lends : Lends r.now j.now at
-  pub before : at.used ≤ length j.now
-  pub words : m.used ≤ length j.now
-  pub used : (seen_at j.now r.now at m).used ≤ length j.now
-  pub own : (seen_at j.now r.now at m).older ≤ (seen_at j.now r.now at m).used
-  pub marked : m.answer ≡ 0 → (seen_at j.now r.now at m).older < (seen_at j.now r.now at m).used
-
 -- the state that a function is lent, where q are the parts that it sees
 abbrev pub lent_to : (q : Parts) → Rest q → At → State
 lent_to q rest at = state at.pc at.source (mem_before q rest (book_at at))
@@ -230,15 +194,6 @@ lent_to q rest at = state at.pc at.source (mem_before q rest (book_at at))
 abbrev pub Returns : {A B : Type 0} → (Returned A → B) → (State → B) → (q : Parts) → At → A → Type 0
 Returns say f q at r =
     (rest : Rest q) → Tells say f (lent_to q rest at) (returned_by q rest r)
-
--- whatever was tried, from whichever state at `at`, it is settled
-abbrev pub Settles : (Parts → Parts) → Lent → At → Now → Source → walk.Reply → Type 0
-Settles parts ring at m f x =
-    (rest : Rest (parts unmapped)) (r : Rule Source) (pc₁ : ℕ) (s : State) → Before at s
-    → Tries r f pc₁ s (stand (answer_of m) m.pc
-    (seen_before (parts unmapped) rest (seen_at (before (parts unmapped).journal rest.journal) ring.entry.now at m)) []
-    ring.entry.now)
-    → Tells told (beginning r pc₁) s (returned_by (parts unmapped) rest x)
 
 abbrev pub Replies : (State → Outcome) → (Parts → Parts) → At → walk.Reply → Type 0
 Replies f parts at r = Returns told f (parts unmapped) at r
@@ -253,15 +208,9 @@ Reports f parts at r = Returns reported f (parts unmapped) at r
 abbrev pub Sees : (List ℕ → State → List ℕ) → (Parts → Parts) → Lent → At → Type 0
 Sees f parts z at = (rest : Rest (parts unmapped)) → z.exit.now ≡ f z.entry.now (lent_to (parts unmapped) rest at)
 
--- as `Replies`, and the bytes that g says are read are marked in a map: by the mark and a rule, and by a step past test 11
-abbrev pub Notes : (State → Outcome) → (State → List ℕ) → (Parts → Parts) → Lent → At → walk.Reply → Type 0
-Notes f g parts z at r = Replies f parts at r × Sees (marking g) parts z at
-
-abbrev pub Begins : Rule Source → ℕ → (Parts → Parts) → Lent → At → walk.Reply → Type 0
-Begins r pc₁ = Notes (beginning r pc₁) (beginning_reads r pc₁)
-
+-- as `Replies`, of a step past test 11, and the bytes that it reads are marked in a map
 abbrev pub Attempts : (Parts → Parts) → Lent → At → walk.Reply → Type 0
-Attempts = Notes (settling calls.instruction) attempt_reads
+Attempts parts z at r = Replies (settling calls.instruction) parts at r × Sees (marking attempt_reads) parts z at
 
 -- as `Reports`, in the same way; and the call with a map
 abbrev pub Charts : (State → calls.Report) → (State → List ℕ) → (Parts → Parts) → Lent → At → runs.Report → Type 0

@@ -1,4 +1,4 @@
-// The public calls: step, run, step_back, tick and view.
+// The public calls: step, run, step_back, tick and view. Each part is a parameter of its own: a caller in C lends them so.
 #![tactic(auto)]
 
 pub mod at;

@@ -9,9 +9,9 @@ ghost use Rattle.bench.specs.Meaning.{no_steps, Fits, Reports, Charts, Maps};
 
 use crate::at::At;
 use crate::{fits, walk};
-use machine::answers;
 use machine::answers::Why;
 
+// The answer is a number, as README has it and C reads it.
 // What a run leaves: its answer, with the address that was turned down or 0, how many steps were done, how many bytes these stored, and where
 // the machine stands.
 #[derive(Clone, Copy)]
@@ -28,8 +28,8 @@ fn turned_down(why: Why, at: At) -> Report
     ensures { result ≡ no_steps (answer_for (why_of why)) at }
 {
     Report {
-        answer: answers::number(why),
-        address: answers::address(why),
+        answer: why.number(),
+        address: why.address(),
         steps: 0,
         stores: 0,
         at,
@@ -51,9 +51,8 @@ fn fit_run(
     ensures { Charts (steps n) (run_reads n) (Image image & Groups at.writable & Pad pad & Vram vram & Regs regs & Journal journal) map at result }
 {
     let mut here = at;
-    let mut done: u32 = 0;
     let mut stores: u64 = 0;
-    while done < n {
+    for done in 0..n {
         let r = walk::fit_step(image, map, pad, vram, regs, journal, here);
         here = r.at;
         if r.answer != 0 {
@@ -65,13 +64,12 @@ fn fit_run(
                 at: here,
             };
         }
-        stores = stores + r.stores;
-        done = done + 1;
+        stores += r.stores;
     }
     Report {
         answer: 0,
         address: 0,
-        steps: done,
+        steps: n,
         stores,
         at: here,
     }
@@ -132,8 +130,7 @@ pub fn run_mapped(
 ) -> Report
     ensures { Maps n (Image image & Groups at.writable & Pad pad & Vram vram & Regs regs & Journal journal) map at result }
 {
-    let size = image.len();
-    if map.len() != size {
+    if map.len() != image.len() {
         return turned_down(Why::WrongLength, at);
     }
     marking_run(image, map, pad, vram, regs, journal, at, n)

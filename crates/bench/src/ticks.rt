@@ -1,13 +1,17 @@
 // Ticks of a sound list.
 ghost use Rattle.std.specs.Prelude.{◌≡◌, ◌++◌, ◌≤◌, length, drop, replicate};
 ghost use Rattle.machine.specs.Meaning.{◌&◌, Groups, Image, Journal, Pad, Regs, Vram};
-ghost use Rattle.bench.specs.Meaning.{Fit, Lends, Hears, fit_ticking, heard_as, ticking};
+ghost use Rattle.bench.specs.Meaning.{Fit, Hears, fit_ticking, heard_as, ticking};
+ghost use Rattle.bench.specs.Making.{Stands, TriesTick, Ticks};
 
 use crate::at::At;
 use crate::walk::Reply;
-use crate::{at, fits, walk};
+use crate::{fits, walk};
 use machine::answers::Why;
+use machine::state::Machine;
+use sound::list::Output;
 
+// The answer is a number, as README has it and C reads it.
 // What a tick leaves: as a step, and how many bytes it has sent, which stand in the output from its first byte on.
 #[derive(Clone, Copy)]
 pub struct Ticked {
@@ -22,12 +26,11 @@ pub struct Ticked {
 fn sending(r: Reply, sent: usize) -> Ticked
     ensures { result ≡ heard_as r sent }
 {
-    let at = r.at;
     Ticked {
         answer: r.answer,
         address: r.address,
         stores: r.stores,
-        at,
+        at: r.at,
         sent,
     }
 }
@@ -37,48 +40,71 @@ fn wipe(output: &mut [u8], n: usize)
     requires { n ≤ length output.old }
     ensures { output.new ≡ replicate n 0 ++ drop n output.old }
 {
-    let mut done: usize = 0;
-    while done < n {
-        output[done] = 0;
-        done += 1;
+    output[..n].fill(0);
+}
+
+// The mark, and the tick's rule. The source flag that it leaves.
+fn attempt(m: &mut Machine<'_>, output: &mut Output<'_>, source: bool) -> Result<bool, Why>
+    ensures { TriesTick source m output result }
+{
+    let pc = m.pc;
+    m.take_mark(pc, source)?;
+    sound::tick::tick(m, output, source)
+}
+
+// What was sent stands in the output, or on a refusal 0 in its place.
+fn tick_machine(m: &mut Machine<'_>, output: &mut Output<'_>, at: At) -> Ticked
+    requires { Stands at m.old × (output.old.sent ≡ 0) }
+    ensures { Ticks m output at result }
+{
+    let tried = attempt(m, output, at.source);
+    let reply = walk::settle(m, at, tried);
+    match tried {
+        Ok(_) => sending(reply, output.sent),
+        Err(_) => {
+            wipe(output.bytes, output.sent);
+            sending(reply, 0)
+        }
     }
 }
 
-// With the ring beside its journal: the mark, the tick's rule, and on a refusal 0 in what was sent.
-fn tick_by(
+// With the parts whose lengths are known as arrays.
+#[tactic(auto, unfolding(machine::specs::Meaning::kept))]
+fn tick_arrays(
     image: &mut [u8],
-    pad: &mut [u8],
-    vram: &mut [u8],
-    regs: &mut [u8],
+    pad: &mut [u8; 256],
+    vram: &mut [u8; 16384],
+    regs: &mut [u8; 8],
     journal: &mut [u32],
-    ring: &mut [usize],
     at: At,
     output: &mut [u8],
 ) -> Ticked
-    requires { Fit pad vram regs journal at × Lends ring.old journal.old at }
+    requires { at.used ≤ length journal.old }
     ensures { Hears fit_ticking (Image image & Groups at.writable & Pad pad & Vram vram & Regs regs & Journal journal) output at result }
 {
-    let marked = machine::journal::take_mark(journal, ring, at::begin(at, at.pc), at.pc, at.source);
-    let t = sound::tick::tick(
+    let first = at.first(journal.len());
+    let mut m = Machine {
         image,
-        &mut [],
+        map: &mut [],
         pad,
         vram,
+        regs,
         journal,
-        ring,
-        output,
-        marked,
-        at.source,
-    );
-    let r = walk::settle(image, pad, vram, regs, journal, ring, at, t.now, t.source);
-    if r.answer == 0 {
-        return sending(r, t.sent);
-    }
-    wipe(output, t.sent);
-    sending(r, 0)
+        first,
+        older: at.used,
+        place: at.place,
+        used: at.count(),
+        pc: at.pc,
+        groups: at.writable,
+    };
+    let mut sending = Output {
+        bytes: output,
+        sent: 0,
+    };
+    tick_machine(&mut m, &mut sending, at)
 }
 
-// A tick past test 11: the two numbers of a ring are lent, and a plain journal is lent none.
+// A tick past test 11.
 fn fit_tick(
     image: &mut [u8],
     pad: &mut [u8],
@@ -91,12 +117,15 @@ fn fit_tick(
     requires { Fit pad vram regs journal at }
     ensures { Hears fit_ticking (Image image & Groups at.writable & Pad pad & Vram vram & Regs regs & Journal journal) output at result }
 {
-    if at.ring {
-        let mut ring: [usize; 2] = [at::free(journal.len(), at), at.used];
-        return tick_by(image, pad, vram, regs, journal, &mut ring, at, output);
-    }
-    let mut none: [usize; 0] = [];
-    tick_by(image, pad, vram, regs, journal, &mut none, at, output)
+    tick_arrays(
+        image,
+        walk::array(pad),
+        walk::array(vram),
+        walk::array(regs),
+        journal,
+        at,
+        output,
+    )
 }
 
 // A tick, with an output of any length.

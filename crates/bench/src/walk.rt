@@ -1,20 +1,22 @@
 // Steps and step-backs.
-ghost use Rattle.std.specs.Prelude.{◌≡◌};
-ghost use Rattle.rules.specs.Answers.{saying, answer_for};
+ghost use Rattle.std.specs.Prelude.{◌≡◌, ◌≤◌, length};
+ghost use Rattle.std.specs.Borrow.{Array, Lends, sem, u8 as byte};
+ghost use Rattle.rules.specs.Answers.{answer_for};
 ghost use Rattle.rules.specs.Calls.{instruction};
-ghost use Rattle.rules.specs.Sound.{start_rule};
-ghost use Rattle.opcode.specs.Meaning.{task_of};
-ghost use Rattle.machine.specs.Meaning.{why_of, ◌&◌, Groups, Image, Journal, Pad, Regs, Vram};
-ghost use Rattle.bench.specs.Meaning.{Fit, Lends, Begun, Settles, Replies, Begins, Attempts, refusal, doing, stepping, undoing, backing};
+ghost use Rattle.rules.specs.Journal.{undo};
+ghost use Rattle.machine.specs.Meaning.{why_of, ◌&◌, Became, Groups, Image, Journal, Pad, Regs, Vram};
+ghost use Rattle.bench.specs.Meaning.{Fit, Replies, Attempts, refusal, stepping, undoing, backing};
+ghost use Rattle.bench.specs.Making.{Stands, Begun, Tries, Settles, Steps};
 
 use crate::at::At;
-use crate::{at, fits};
-use machine::answers;
+use crate::fits;
 use machine::answers::Why;
-use machine::state::Now;
-use opcode::class::{Class, Task};
+use machine::state::Machine;
+use opcode::class::Class;
 use ring::book;
+use ring::book::Book;
 
+// The answer is a number, as README has it and C reads it.
 // What a call leaves: its answer, with the address that was turned down or 0, how many bytes it stored, and where the machine stands.
 #[derive(Clone, Copy)]
 pub struct Reply {
@@ -24,152 +26,126 @@ pub struct Reply {
     pub at: At,
 }
 
-fn refused(answer: u8, address: u16, at: At) -> Reply
-    ensures { result ≡ refusal (saying answer address) at }
+pub(crate) fn turned_down(why: Why, at: At) -> Reply
+    ensures { result ≡ refusal (answer_for (why_of why)) at }
 {
     Reply {
-        answer,
-        address,
+        answer: why.number(),
+        address: why.address(),
         stores: 0,
         at,
     }
 }
 
-pub(crate) fn turned_down(why: Why, at: At) -> Reply
-    ensures { result ≡ refusal (answer_for (why_of why)) at }
-{
-    refused(answers::number(why), answers::address(why), at)
-}
-
 // ---- a step
 
-// What was attempted, from `at` to here, with the source flag that it leaves: done, or on a refusal all put back.
-pub(crate) fn settle(
-    image: &mut [u8],
-    pad: &mut [u8],
-    vram: &mut [u8],
-    regs: &mut [u8],
-    journal: &mut [u32],
-    ring: &mut [usize],
-    at: At,
-    m: Now,
-    source: bool,
-) -> Reply
-    requires { Begun journal ring at m }
-    ensures { Settles (Image image & Groups at.writable & Pad pad & Vram vram & Regs regs & Journal journal) ring at m source result }
+// The opcode, its class, the mark, and the task or the start of a sound list. The source flag that it leaves.
+#[tactic(auto, using(crate::proofs::Trying::trials), unfolding(crate::specs::Making::trying))]
+fn attempt(m: &mut Machine<'_>, source: bool) -> Result<bool, Why>
+    ensures { Tries source m result }
 {
-    let book = book::close(journal, at::book(at), m.used);
-    let taken = book.used - book.older;
-    if m.answer == 0 {
-        let stores = taken - 1;
-        return Reply {
-            answer: 0,
-            address: 0,
-            stores: stores as u64,
-            at: at::rest(m.pc, book, at.writable, source),
-        };
+    let pc = m.pc;
+    let op = m.next_byte()?;
+    let class = opcode::class::class_of(op)?;
+    m.take_mark(pc, source)?;
+    match class {
+        Class::Does(task) => {
+            opcode::task::perform(m, task)?;
+            Ok(source)
+        }
+        Class::Starts(imm, wide) => sound::start::start(m, imm, wide),
     }
-    let back = machine::journal::undo(image, pad, vram, regs, journal, book, taken);
-    refused(
-        m.answer,
-        m.address,
-        at::rest(at.pc, back, at.writable, at.source),
-    )
 }
 
-// The mark and the task. The opcode stood at `at`, and `next` is past it.
-fn do_task(
+// The top n words put back: a machine's arrays lent as slices.
+fn undo(
+    image: &mut [u8],
+    pad: &mut [u8; 256],
+    vram: &mut [u8; 16384],
+    regs: &mut [u8; 8],
+    journal: &mut [u32],
+    book: Book,
+    n: usize,
+) -> Book
+    requires { book.used ≤ length journal.old }
+    ensures { Became (undo n) (Image image & Pad pad & Vram vram & Regs regs & Journal journal) book result }
+{
+    machine::journal::undo(image, pad, vram, regs, journal, book, n)
+}
+
+// What was attempted from `at`, and the source flag that it leaves: done, or on a refusal all put back.
+pub(crate) fn settle(m: &mut Machine<'_>, at: At, tried: Result<bool, Why>) -> Reply
+    requires { Begun at m.old tried }
+    ensures { Settles m at tried result }
+{
+    let book = book::close(m.journal, at.book(), m.used);
+    let taken = book.used - book.older;
+    match tried {
+        Ok(source) => Reply {
+            answer: 0,
+            address: 0,
+            stores: (taken - 1) as u64,
+            at: At::rest(m.pc, book, at.writable, source),
+        },
+        Err(why) => {
+            let back = undo(m.image, m.pad, m.vram, m.regs, m.journal, book, taken);
+            turned_down(why, At::rest(at.pc, back, at.writable, at.source))
+        }
+    }
+}
+
+// A step of a machine that stands at `at`.
+fn step_machine(m: &mut Machine<'_>, at: At) -> Reply
+    requires { Stands at m.old }
+    ensures { Steps m at result }
+{
+    let tried = attempt(m, at.source);
+    settle(m, at, tried)
+}
+
+// With the parts whose lengths are known as arrays. The machine is made here and in `ticks`: where one function made it for both, what the lent slices end with
+// was not known.
+#[tactic(auto, unfolding(machine::specs::Meaning::kept))]
+fn step_arrays(
     image: &mut [u8],
     map: &mut [u8],
-    pad: &mut [u8],
-    vram: &mut [u8],
-    regs: &mut [u8],
+    pad: &mut [u8; 256],
+    vram: &mut [u8; 16384],
+    regs: &mut [u8; 8],
     journal: &mut [u32],
-    ring: &mut [usize],
     at: At,
-    next: u16,
-    task: Task,
 ) -> Reply
-    requires { Fit pad vram regs journal at × Lends ring.old journal.old at }
-    ensures { Begins (doing (task_of task) at) next (Image image & Groups at.writable & Pad pad & Vram vram & Regs regs & Journal journal) map at result }
+    requires { at.used ≤ length journal.old }
+    ensures { Attempts (Image image & Groups at.writable & Pad pad & Vram vram & Regs regs & Journal journal) map at result }
 {
-    let marked = machine::journal::take_mark(journal, ring, at::begin(at, next), at.pc, at.source);
-    let m = opcode::task::perform(
+    let first = at.first(journal.len());
+    let mut m = Machine {
         image,
         map,
         pad,
         vram,
         regs,
         journal,
-        ring,
-        marked,
-        at.writable,
-        task,
-    );
-    settle(image, pad, vram, regs, journal, ring, at, m, at.source)
+        first,
+        older: at.used,
+        place: at.place,
+        used: at.count(),
+        pc: at.pc,
+        groups: at.writable,
+    };
+    step_machine(&mut m, at)
 }
 
-// The mark and the start of a sound list.
-fn do_start(
-    image: &mut [u8],
-    map: &mut [u8],
-    pad: &mut [u8],
-    vram: &mut [u8],
-    regs: &mut [u8],
-    journal: &mut [u32],
-    ring: &mut [usize],
-    at: At,
-    next: u16,
-    imm: bool,
-    wide: bool,
-) -> Reply
-    requires { Fit pad vram regs journal at × Lends ring.old journal.old at }
-    ensures { Begins (start_rule imm wide) next (Image image & Groups at.writable & Pad pad & Vram vram & Regs regs & Journal journal) map at result }
+// A slice whose length is known, as an array.
+pub(crate) fn array<const N: usize>(s: &mut [u8]) -> &mut [u8; N]
+    requires { length s.old ≡ N }
+    ensures* writes_back { sem 𝓛 (Lends (Array byte 0) (Array byte 0) s.entry result (λ w. w)) }
+    ensures now { result.now ≡ s.old }
 {
-    let marked = machine::journal::take_mark(journal, ring, at::begin(at, next), at.pc, at.source);
-    let started = sound::start::start(image, map, pad, vram, journal, ring, marked, imm, wide);
-    settle(
-        image,
-        pad,
-        vram,
-        regs,
-        journal,
-        ring,
-        at,
-        started.now,
-        started.source,
-    )
+    s.as_mut_array().unwrap()
 }
 
-// With the ring beside its journal: the opcode, and its class.
-fn step_by(
-    image: &mut [u8],
-    map: &mut [u8],
-    pad: &mut [u8],
-    vram: &mut [u8],
-    regs: &mut [u8],
-    journal: &mut [u32],
-    ring: &mut [usize],
-    at: At,
-) -> Reply
-    requires { Fit pad vram regs journal at × Lends ring.old journal.old at }
-    ensures { Attempts (Image image & Groups at.writable & Pad pad & Vram vram & Regs regs & Journal journal) map at result }
-{
-    let op = machine::grom::next_byte(image, map, at::begin(at, at.pc));
-    if op.answer != 0 {
-        return refused(op.answer, op.address, at);
-    }
-    let class = opcode::class::class_of(op.byte);
-    match class {
-        Class::Stops(why) => turned_down(why, at),
-        Class::Does(task) => do_task(image, map, pad, vram, regs, journal, ring, at, op.pc, task),
-        Class::Starts(imm, wide) => do_start(
-            image, map, pad, vram, regs, journal, ring, at, op.pc, imm, wide,
-        ),
-    }
-}
-
-// A step past test 11: the two numbers of a ring are lent, and a plain journal is lent none.
+// A step past test 11.
 pub(crate) fn fit_step(
     image: &mut [u8],
     map: &mut [u8],
@@ -182,12 +158,15 @@ pub(crate) fn fit_step(
     requires { Fit pad vram regs journal at }
     ensures { Attempts (Image image & Groups at.writable & Pad pad & Vram vram & Regs regs & Journal journal) map at result }
 {
-    if at.ring {
-        let mut ring: [usize; 2] = [at::free(journal.len(), at), at.used];
-        return step_by(image, map, pad, vram, regs, journal, &mut ring, at);
-    }
-    let mut none: [usize; 0] = [];
-    step_by(image, map, pad, vram, regs, journal, &mut none, at)
+    step_arrays(
+        image,
+        map,
+        array(pad),
+        array(vram),
+        array(regs),
+        journal,
+        at,
+    )
 }
 
 pub fn step(
@@ -228,18 +207,16 @@ fn fit_back(
     requires { Fit pad vram regs journal at }
     ensures { Replies undoing (Image image & Groups at.writable & Pad pad & Vram vram & Regs regs & Journal journal) at result }
 {
-    let book = at::book(at);
-    let found = machine::journal::find(journal, book, image.len(), at.writable);
-    let words = found.words;
-    if words == 0 {
+    let book = at.book();
+    let Some(found) = machine::journal::find(journal, book, image.len(), at.writable) else {
         return turned_down(Why::NoRecord, at);
-    }
-    let left = machine::journal::undo(image, pad, vram, regs, journal, book, words);
+    };
+    let left = machine::journal::undo(image, pad, vram, regs, journal, book, found.words);
     Reply {
         answer: 0,
         address: 0,
         stores: 0,
-        at: at::rest(found.pc, left, at.writable, found.source),
+        at: At::rest(found.pc, left, at.writable, found.source),
     }
 }
 
@@ -253,7 +230,7 @@ pub fn step_back(
 ) -> Reply
     ensures { Replies backing (Image image & Groups at.writable & Pad pad & Vram vram & Regs regs & Journal journal) at result }
 {
-    let parts = fits::all_fit(
+    let fit = fits::all_fit(
         image.len(),
         pad.len(),
         vram.len(),
@@ -261,7 +238,7 @@ pub fn step_back(
         journal.len(),
         at,
     );
-    if !parts {
+    if !fit {
         return turned_down(Why::WrongLength, at);
     }
     fit_back(image, pad, vram, regs, journal, at)

@@ -1,179 +1,95 @@
 // Where a MOVE's bytes come from and where they go.
 ghost use Rattle.std.specs.Prelude.{◌≡◌};
-ghost use Rattle.rules.specs.Machine.{grom};
-ghost use Rattle.rules.specs.Operands.{cell, place};
+ghost use Rattle.rules.specs.Operands.{place};
+ghost use Rattle.rules.specs.Instructions;
 ghost use Rattle.rules.specs.Instructions.{register_cell, ram_target, move_target, grom_cell, move_source};
-ghost use Rattle.machine.specs.Meaning.{◌&◌, Gives, IsPad, Journal, Map, Pad, Ring, SeenImage, SeenPad};
-ghost use Rattle.operand.specs.Meaning.{cell_of};
-ghost use Rattle.block.specs.Meaning.{target_of, origin_of};
+ghost use Rattle.machine.specs.Meaning.{kind_of, valued, Does};
+ghost use Rattle.block.specs.Meaning.{end_of};
 
-use machine::state::Now;
-use operand::places::Place;
+use machine::answers::Why;
+use machine::memory::Memory;
+use machine::state::Machine;
+use operand::decode;
 
+// The first cell of either end.
 #[derive(Clone, Copy)]
-pub enum Target {
-    Pad(u16),
-    Video(u16),
-    Register(u8),
-    Gram(u16),
+pub struct End {
+    pub memory: Memory,
+    pub at: u16,
 }
 
-#[derive(Clone, Copy)]
-pub enum Origin {
-    Grom(u16),
-    Cpu(u16),
-    Vdp(u16),
-}
-
-// An end, beside the state that goes on.
-#[derive(Clone, Copy)]
-pub struct Aimed {
-    pub now: Now,
-    pub target: Target,
-}
-
-#[derive(Clone, Copy)]
-pub struct Drawn {
-    pub now: Now,
-    pub origin: Origin,
-}
-
-fn target_at(place: Place) -> Target
-    ensures { target_of result ≡ cell_of place }
-{
-    match place {
-        Place::Cpu(a) => Target::Pad(a),
-        Place::Vdp(a) => Target::Video(a),
+impl End {
+    // Where the cell k further on is: an address of the image counts in 16 bits.
+    pub(crate) fn beyond(self, k: u16) -> usize
+        ensures { result ≡ (Instructions.beyond k (end_of self)).at }
+    {
+        match self.memory {
+            Memory::Grom => number::addresses::plus(self.at, k) as usize,
+            _ => self.at as usize + k as usize,
+        }
     }
 }
 
-fn origin_at(place: Place) -> Origin
-    ensures { origin_of result ≡ cell_of place }
+#[tactic(auto, using(machine::proofs::Laws::steps), unfolding(rules::specs::Instructions::register_cell))]
+fn register_cell(m: &mut Machine<'_>) -> Result<End, Why>
+    ensures { Does register_cell m (valued end_of result) }
 {
-    match place {
-        Place::Cpu(a) => Origin::Cpu(a),
-        Place::Vdp(a) => Origin::Vdp(a),
-    }
+    let n = m.next_byte()?;
+    Ok(End {
+        memory: Memory::Register,
+        at: n as u16,
+    })
 }
 
-fn register_cell(image: &[u8], map: &mut [u8], m: Now) -> Aimed
-    ensures { Gives (target_of result.target) register_cell (SeenImage image & Map map) m result.now }
+// A place in the pad or in VDP RAM.
+#[tactic(auto, using(machine::proofs::Laws::steps))]
+fn place(m: &mut Machine<'_>) -> Result<End, Why>
+    ensures { Does place m (valued end_of result) }
 {
-    let n = machine::grom::next_byte(image, map, m);
-    Aimed {
-        now: n,
-        target: Target::Register(n.byte),
-    }
-}
-
-fn place_target(
-    image: &[u8],
-    map: &mut [u8],
-    pad: &mut [u8],
-    journal: &mut [u32],
-    ring: &mut [usize],
-    m: Now,
-) -> Aimed
-    requires { IsPad pad.old }
-    ensures { Gives (target_of result.target) place (SeenImage image & Map map & Pad pad & Journal journal & Ring ring) m result.now }
-{
-    let o = operand::decode::operand(image, map, pad, journal, ring, m, 1);
-    Aimed {
-        now: operand::places::now_of(o),
-        target: target_at(operand::places::place_of(o)),
-    }
-}
-
-// A register number, or a place.
-fn ram_target(
-    image: &[u8],
-    map: &mut [u8],
-    pad: &mut [u8],
-    journal: &mut [u32],
-    ring: &mut [usize],
-    m: Now,
-    register: bool,
-) -> Aimed
-    requires { IsPad pad.old }
-    ensures { Gives (target_of result.target) (ram_target register) (SeenImage image & Map map & Pad pad & Journal journal & Ring ring) m result.now }
-{
-    if register {
-        return register_cell(image, map, m);
-    }
-    place_target(image, map, pad, journal, ring, m)
+    let place = decode::operand(m, 1)?;
+    Ok(End {
+        memory: place.memory(),
+        at: place.at(),
+    })
 }
 
 // A two-byte address, with an index or not.
-fn grom_cell(image: &[u8], map: &mut [u8], pad: &[u8], m: Now, x: bool) -> Now
-    requires { IsPad pad.now }
-    ensures { Gives (cell grom result.word) (grom_cell x) (SeenImage image & Map map & SeenPad pad) m result }
+#[tactic(auto, using(machine::proofs::Laws::steps), unfolding(rules::specs::Instructions::grom_cell))]
+fn grom_cell(m: &mut Machine<'_>, x: bool) -> Result<End, Why>
+    ensures { Does (grom_cell x) m (valued end_of result) }
 {
-    let a = machine::grom::next_word(image, map, m);
-    operand::decode::indexed(image, map, pad, a, x, a.word)
+    let a = m.next_word()?;
+    let at = decode::indexed(m, x, a)?;
+    Ok(End {
+        memory: Memory::Grom,
+        at,
+    })
+}
+
+// A register number, or a place.
+#[tactic(auto, using(machine::proofs::Laws::choosing), unfolding(rules::specs::Instructions::ram_target))]
+fn ram_target(m: &mut Machine<'_>, register: bool) -> Result<End, Why>
+    ensures { Does (ram_target register) m (valued end_of result) }
+{
+    if register { register_cell(m) } else { place(m) }
 }
 
 // In RAM, or in the image.
-pub fn move_target(
-    image: &[u8],
-    map: &mut [u8],
-    pad: &mut [u8],
-    journal: &mut [u32],
-    ring: &mut [usize],
-    m: Now,
-    ram: bool,
-    register: bool,
-) -> Aimed
-    requires { IsPad pad.old }
-    ensures { Gives (target_of result.target) (move_target ram register) (SeenImage image & Map map & Pad pad & Journal journal & Ring ring) m result.now }
+#[tactic(auto, using(machine::proofs::Laws::choosing), unfolding(rules::specs::Instructions::move_target))]
+pub fn move_target(m: &mut Machine<'_>, ram: bool, register: bool) -> Result<End, Why>
+    ensures { Does (move_target ram register) m (valued end_of result) }
 {
     if ram {
-        return ram_target(image, map, pad, journal, ring, m, register);
-    }
-    let a = grom_cell(image, map, pad, m, false);
-    Aimed {
-        now: a,
-        target: Target::Gram(a.word),
-    }
-}
-
-fn place_source(
-    image: &[u8],
-    map: &mut [u8],
-    pad: &mut [u8],
-    journal: &mut [u32],
-    ring: &mut [usize],
-    m: Now,
-) -> Drawn
-    requires { IsPad pad.old }
-    ensures { Gives (origin_of result.origin) place (SeenImage image & Map map & Pad pad & Journal journal & Ring ring) m result.now }
-{
-    let o = operand::decode::operand(image, map, pad, journal, ring, m, 1);
-    Drawn {
-        now: operand::places::now_of(o),
-        origin: origin_at(operand::places::place_of(o)),
+        ram_target(m, register)
+    } else {
+        grom_cell(m, false)
     }
 }
 
 // A place, or the image.
-pub fn move_source(
-    image: &[u8],
-    map: &mut [u8],
-    pad: &mut [u8],
-    journal: &mut [u32],
-    ring: &mut [usize],
-    m: Now,
-    operand: bool,
-    x: bool,
-) -> Drawn
-    requires { IsPad pad.old }
-    ensures { Gives (origin_of result.origin) (move_source operand x) (SeenImage image & Map map & Pad pad & Journal journal & Ring ring) m result.now }
+#[tactic(auto, using(machine::proofs::Laws::choosing), unfolding(rules::specs::Instructions::move_source))]
+pub fn move_source(m: &mut Machine<'_>, operand: bool, x: bool) -> Result<End, Why>
+    ensures { Does (move_source operand x) m (valued end_of result) }
 {
-    if operand {
-        return place_source(image, map, pad, journal, ring, m);
-    }
-    let a = grom_cell(image, map, pad, m, x);
-    Drawn {
-        now: a,
-        origin: Origin::Grom(a.word),
-    }
+    if operand { place(m) } else { grom_cell(m, x) }
 }

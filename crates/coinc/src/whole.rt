@@ -1,64 +1,45 @@
 // A whole COINC.
-ghost use Rattle.std.specs.Prelude.{◌<◌};
+ghost use Rattle.std.specs.Prelude.{◌<◌, IfOk};
 ghost use Rattle.rules.specs.Coincidence;
 ghost use Rattle.rules.specs.Coincidence.{look_up, coinc_rule};
-ghost use Rattle.machine.specs.Meaning.{◌&◌, Does, Gives, IsPad, IsVram, Journal, Map, Pad, Ring, SeenImage, SeenVram};
+ghost use Rattle.machine.specs.Meaning.{Does};
 
 use crate::table;
-use machine::answers::Why;
-use machine::state::Now;
-use operand::{stacks, status};
+use machine::answers::{Why, need};
+use machine::state::Machine;
+use operand::{stacks, status, values};
 
-// At most 7, also of a machine that has refused it: a shift by it is always sound.
-fn granularity(image: &[u8], map: &mut [u8], m: Now) -> Now
-    ensures { (result.word < 8) × Gives result.word Coincidence.granularity (SeenImage image & Map map) m result }
+// At most 7: a shift by it is sound.
+#[tactic(auto, using(machine::proofs::Laws::steps), unfolding(rules::specs::Coincidence::granularity))]
+fn granularity(m: &mut Machine<'_>) -> Result<u16, Why>
+    ensures bound { IfOk result (λ g. g < 8) }
+    ensures does { Does Coincidence.granularity m result }
 {
-    let g = machine::grom::next_byte(image, map, m);
-    let fine = machine::state::need(g, g.byte <= 7, Why::TooCoarse);
-    let low = g.byte as u16 % 8;
-    machine::state::give_word(fine, low)
+    let g = m.next_byte()?;
+    need(g <= 7, Why::TooCoarse)?;
+    Ok(g as u16)
 }
 
 // pc stands on the stack while the table is read and the condition stored.
-fn look_up(
-    image: &[u8],
-    map: &mut [u8],
-    pad: &mut [u8],
-    journal: &mut [u32],
-    ring: &mut [usize],
-    m: Now,
-    t: u16,
-    g: u16,
-    a: u16,
-    b: u16,
-) -> Now
-    requires { IsPad pad.old × (g < 8) }
-    ensures { Does (look_up t g a b) (SeenImage image & Map map & Pad pad & Journal journal & Ring ring) m result }
+#[tactic(auto, using(machine::proofs::Laws::steps), unfolding(rules::specs::Coincidence::look_up))]
+fn look_up(m: &mut Machine<'_>, t: u16, g: u16, a: u16, b: u16) -> Result<(), Why>
+    requires { g < 8 }
+    ensures { Does (look_up t g a b) m result }
 {
-    let pushed = stacks::push_pc(pad, journal, ring, m);
-    let found = table::in_table(image, map, pushed, t, g, a, b);
-    let stored = status::set_condition(pad, journal, ring, found.now, found.met);
-    stacks::pop_pc(pad, journal, ring, stored)
+    stacks::push_pc(m)?;
+    let met = table::in_table(m, t, g, a, b)?;
+    status::set_condition(m, met)?;
+    stacks::pop_pc(m)
 }
 
 // The destination is read before the source.
-pub fn coinc(
-    image: &[u8],
-    map: &mut [u8],
-    pad: &mut [u8],
-    vram: &[u8],
-    journal: &mut [u32],
-    ring: &mut [usize],
-    m: Now,
-) -> Now
-    requires { IsPad pad.old × IsVram vram.now }
-    ensures { Does coinc_rule (SeenImage image & Map map & Pad pad & SeenVram vram & Journal journal & Ring ring) m result }
+#[tactic(auto, using(machine::proofs::Laws::steps), unfolding(rules::specs::Coincidence::coinc_rule))]
+pub fn coinc(m: &mut Machine<'_>) -> Result<(), Why>
+    ensures { Does coinc_rule m result }
 {
-    let a = operand::values::operand_value(image, map, pad, vram, journal, ring, m, true);
-    let b = operand::values::operand_value(image, map, pad, vram, journal, ring, a, true);
-    let g = granularity(image, map, b);
-    let t = machine::grom::next_word(image, map, g);
-    look_up(
-        image, map, pad, journal, ring, t, t.word, g.word, a.word, b.word,
-    )
+    let a = values::operand_value(m, true)?;
+    let b = values::operand_value(m, true)?;
+    let g = granularity(m)?;
+    let t = m.next_word()?;
+    look_up(m, t, g, a, b)
 }

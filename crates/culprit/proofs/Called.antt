@@ -1,10 +1,7 @@
 -- The call: by what test 11 says; and what it answers can be read off the rules' answer, so its contract determines it.
-use mathlib.Core.Path.{◌≡◌, refl, ◌∙◌, ap, sym, subst}
-use mathlib.Core.Bool.{Bool, true, false}
-use mathlib.Core.List.{List}
-use Prim.Native.Nat.{ℕ, ◌≤◌}
-use lib.ListN.{length}
-use Rattle.rules.specs.Machine.{◌also◌, Kind}
+use Rattle.std.proofs.Common.{◌≡◌, refl, ◌∙◌, ap, sym, subst, Bool, true, false, List, ℕ, ◌≤◌, length}
+use Rattle.std.specs.Prelude.{Some, None, Ok, Err, eqb}
+use Rattle.rules.specs.Machine.{pick, ◌also◌, Kind}
 use Rattle.rules.specs.Answers.{answer_for, wrong_length}
 use Rattle.rules.specs.Calls.{image_fits, parts_fit, place_fits}
 use Rattle.rules.proofs.Fits.{fits_used}
@@ -14,9 +11,8 @@ use Rattle.bench.specs.Meaning.{state_at}
 use Rattle.bench.proofs.Steps.{tested}
 use Rattle.culprit.specs.Culprit as culprit
 use Rattle.culprit.specs.Culprit.{refusal, none_kept, wrote, fit_who, who_wrote}
-use Rattle.culprit.specs.Meaning.{wrote_of}
-use Rattle.culprit.specs.declared.trail.Wrote.{Wrote}
-use Rattle.culprit.specs.declared.trail.Wrote.TheVariants.{Step, NoneKept, Refused}
+use Rattle.culprit.specs.Meaning.{Saying, wrote_of}
+use Rattle.culprit.specs.declared.trail.Refusal.TheVariants.{WrongLength, NoRecord}
 use Rattle.culprit.proofs.Trails.{who_fit, who_unfit}
 
 module _ (i p v g j : List ℕ) (at : At) {t : Bool}
@@ -31,17 +27,18 @@ module _ (i p v g j : List ℕ) (at : At) {t : Bool}
   used_fit h =
       subst (λ (n : ℕ). at.used ≤ n) (length_turned at.ring at.place j) (fits_used (state_at i p v g j at).mem (sym (tested i p v g j at e) ∙ h))
 
-read : culprit.Wrote → Wrote
-read (refusal a) = Refused a.number
-read none_kept = NoneKept
-read (wrote n pc b c) = Step (record { after = n; pc = pc; before = b; left = c })
+read : culprit.Wrote → Saying
+read (refusal a) = Err (pick (eqb a.number 11) WrongLength NoRecord)
+read none_kept = Ok None
+read (wrote n pc b c) = Ok (Some (record { after = n; pc = pc; before = b; left = c }))
 
-read_wrote : (w : Wrote) → read (wrote_of w) ≡ w
+read_wrote : (w : Saying) → read (wrote_of w) ≡ w
 unfolding read
-read_wrote (Step c) = refl
-read_wrote NoneKept = refl
-read_wrote (Refused n) = refl
+read_wrote (Ok (Some c)) = refl
+read_wrote (Ok None) = refl
+read_wrote (Err WrongLength) = refl
+read_wrote (Err NoRecord) = refl
 
 -- two answers that say the same are one
-pub wrote_determined : {x : culprit.Wrote} {v w : Wrote} → wrote_of v ≡ x → wrote_of w ≡ x → v ≡ w
+pub wrote_determined : {x : culprit.Wrote} {v w : Saying} → wrote_of v ≡ x → wrote_of w ≡ x → v ≡ w
 wrote_determined {v = v} {w = w} e h = sym (read_wrote v) ∙ ap read (e ∙ sym h) ∙ read_wrote w

@@ -1,9 +1,5 @@
 -- Item 7 by computation, over a machine of full size: runs and what is said after them, and words that are lent.
-use mathlib.Core.Path.{◌≡◌, refl}
-use mathlib.Core.Bool.{Bool, true, false}
-use mathlib.Core.List.{List, [], ◌∷◌}
-use Prim.Native.Nat.{ℕ}
-use lib.ListN.{replicate, set}
+use Rattle.std.proofs.Common.{◌≡◌, refl, Bool, true, false, List, [], ◌∷◌, ℕ, replicate, set}
 use Rattle.rules.specs.Machine.{cpu, vdp, register, grom, size, group, Mem, mem, State, state}
 use Rattle.rules.specs.Answers.{answer_for, wrong_length, no_record}
 use Rattle.rules.specs.Journal.{turned}

@@ -1,101 +1,12 @@
 -- The trail in the code's words: a law for each way that a word is told, then for one word more of the list, and for how the loop ends.
-use mathlib.Core.Path.{◌≡◌, refl, ◌∙◌, ap, ap₂, sym}
-use mathlib.Core.Bool.{Bool, true, false}
-use mathlib.Core.List.{List, [], ◌∷◌, ◌++◌}
-use Prim.Native.Nat.{ℕ, zero, suc, ◌+◌, ◌/◌, ◌%◌, ◌^◌, ◌≤◌, ◌<◌}
-use native.Mathlib.Nat.{not-suc-le-zero}
-use native.Mathlib.Numerals.{add-one}
-use native.Mathlib.Omega.{arith}
-use lib.Dec.{eqb}
-use lib.ListN.{length, get_or, take}
-use lib.Seq.{take-suc, get_or-take, length-take-le}
-use Rattle.rules.specs.Machine.{pick, ◌also◌, Kind, cpu, vdp, register, grom, Area, Mem}
+use Rattle.std.proofs.Common.{◌≡◌, refl, ◌∙◌, ap, sym, Bool, true, false, List, [], ◌∷◌, ◌++◌, ℕ, zero, suc, ◌+◌, ◌≤◌, ◌<◌, not-suc-le-zero, add-one, arith, length, get_or, take, take-suc, get_or-take, length-take-le}
+use Rattle.rules.specs.Machine.{pick, ◌also◌, Kind, Area, Mem}
 use Rattle.rules.specs.Answers.{answer_for, wrong_length, no_record}
-use Rattle.rules.specs.Journal.{kind_number, Note, mark, stood_in, note_of, note, sound, marks}
+use Rattle.rules.specs.Journal.{note, sound, marks}
 use Rattle.rules.specs.Calls.{fits}
-use Rattle.rules.proofs.Tests.{false_true, both, together}
-use Rattle.culprit.specs.Culprit.{same_cell, nobody, writer, later, stamped, Trail, trail, told, follow, all_sound, marked, whole}
-use Rattle.culprit.specs.Culprit.{Wrote, refusal, none_kept, wrote, named, answered, fit_who, who_wrote}
-use Rattle.culprit.specs.Meaning.{writer_of}
-
--- ---- a mark, and a store to the cell
-
-pub one_later : (f : Bool) (n p b pc : ℕ) → trail pc (writer_of f (n + 1) p b) ≡ trail pc (later (writer_of f n p b))
-unfolding writer_of
-one_later true n p b pc = ap (λ (x : ℕ). trail pc (writer x p b)) (add-one n)
-one_later false n p b pc = refl
-
-module _ (f : Bool) (n p c pc b : ℕ) where
-  pub stamped_again : f ≡ true → n ≡ 0 → trail pc (writer_of f n p c) ≡ trail pc (stamped pc b (writer_of f n p c))
-  unfolding writer_of
-  stamped_again e z = rw (e, z)
-
-  pub stamped_first : f ≡ false → trail pc (writer_of true 0 pc b) ≡ trail pc (stamped pc b (writer_of f n p c))
-  unfolding writer_of
-  stamped_first e = rw e
-
-  pub stamped_later : f ≡ true → (n ≡ 0 → ⊥) → trail pc (writer_of true 0 pc b) ≡ trail pc (stamped pc b (writer_of f n p c))
-  unfolding writer_of
-  stamped_later e h = rw e (go n h)
-    where
-      go : (n : ℕ) → (n ≡ 0 → ⊥) → trail pc (writer 0 pc b) ≡ trail pc (stamped pc b (writer n p c))
-      go zero o = absurd (o refl)
-      go (suc n) o = refl
-
--- ---- who is named at last
-
-module _ (left n p b : ℕ) (f : Bool) where
-  pub named_nobody : f ≡ false → none_kept ≡ named left (writer_of f n p b)
-  unfolding writer_of
-  named_nobody e = rw e
-
-  pub named_step : f ≡ true → wrote n p b left ≡ named left (writer_of f n p b)
-  unfolding writer_of
-  named_step e = rw e
-
--- ---- a sound word, by its kind
-
--- a mark's pc is the word's low sixteen bits
-noted_mark : (w : ℕ) → w / 2 ^ 29 ≡ 3 → note w ≡ mark (w % 2 ^ 29)
-unfolding note
-noted_mark w e = ap (λ (n : ℕ). note_of n (w % 2 ^ 29)) e
-
-pub told_mark : (k : Kind) (a w n : ℕ) {r : Trail} (t : Trail) → n ≡ w / 2 ^ 29 → n ≡ 3 → r ≡ trail (w % 65536) (later t.by) → r ≡ told k a (note w) t
-told_mark k a w n t e f q =
-    let low : w % 65536 ≡ w % 2 ^ 29 % 65536 = omega arith in
-    q ∙ ap (λ (x : ℕ). trail x (later t.by)) low ∙ ap (λ (x : Note). told k a x t) (sym (noted_mark w (sym e ∙ f)))
-
--- any other is a store's
-record Celled (n low : ℕ) : Type 0 where
-  kind : Kind
-  numbered : kind_number kind ≡ n
-  is : note_of n low ≡ stood_in kind low
-
-celled : (z : Area) (n low : ℕ) → (n ≡ 3 → ⊥) → sound z (note_of n low) ≡ true → Celled n low
-celled z zero low x h = record { kind = cpu; numbered = refl; is = refl }
-celled z (suc zero) low x h = record { kind = vdp; numbered = refl; is = refl }
-celled z (suc (suc zero)) low x h = record { kind = register; numbered = refl; is = refl }
-celled z (suc (suc (suc zero))) low x h = absurd (x refl)
-celled z (suc (suc (suc (suc zero)))) low x h = record { kind = grom; numbered = refl; is = refl }
-celled z (suc (suc (suc (suc (suc n))))) low x h = absurd (false_true h)
-
-module _ (z : Area) (k : Kind) (a w n m : ℕ) {c : Bool} (t : Trail) (e : n ≡ w / 2 ^ 29) (f : n ≡ 3 → ⊥) (h : sound z (note w) ≡ true) (q : kind_number k ≡ m)
-    (s : c ≡ (eqb m (w / 2 ^ 29) also eqb a (w % 2 ^ 29 / 256))) where
-  told_store : told k a (note w) t ≡ trail t.pc (pick c (stamped t.pc (w % 2 ^ 29 % 256) t.by) t.by)
-  unfolding note same_cell
-  told_store =
-      let x : Celled (w / 2 ^ 29) (w % 2 ^ 29) = celled z (w / 2 ^ 29) (w % 2 ^ 29) (λ y. f (e ∙ y)) h in
-      let same : same_cell k a x.kind (w % 2 ^ 29 / 256) ≡ c = ap₂ (λ (i j : ℕ). eqb i j also eqb a (w % 2 ^ 29 / 256)) q x.numbered ∙ sym s in
-      ap (λ (y : Note). told k a y t) x.is
-      ∙ ap (λ (d : Bool). trail t.pc (pick d (stamped t.pc (w % 2 ^ 29 % 256) t.by) t.by)) same
-
-  pub told_other : c ≡ false → t ≡ told k a (note w) t
-  told_other y = sym (told_store ∙ ap (λ (d : Bool). trail t.pc (pick d (stamped t.pc (w % 2 ^ 29 % 256) t.by) t.by)) y)
-
-  pub told_here : (b : ℕ) {r : Trail} → c ≡ true → b ≡ w % 2 ^ 29 % 256 → r ≡ trail t.pc (stamped t.pc b t.by) → r ≡ told k a (note w) t
-  told_here b y g i =
-      i ∙ ap (λ (x : ℕ). trail t.pc (stamped t.pc x t.by)) g
-      ∙ sym (told_store ∙ ap (λ (d : Bool). trail t.pc (pick d (stamped t.pc (w % 2 ^ 29 % 256) t.by) t.by)) y)
+use Rattle.rules.proofs.Tests.{both, together}
+use Rattle.culprit.specs.Culprit.{nobody, Trail, trail, told, follow, all_sound, marked, whole}
+use Rattle.culprit.specs.Culprit.{Wrote, refusal, named, answered, fit_who, who_wrote}
 
 -- ---- the words as a list
 
@@ -126,11 +37,11 @@ pub marked_none : (u : ℕ) (j : List ℕ) → u ≡ 0 → true ≡ marked (take
 unfolding marked
 marked_none u j e = rw e
 
-pub marked_oldest : (u w n : ℕ) (j : List ℕ) → (u ≡ 0 → ⊥) → u ≤ length j → w ≡ get_or j 0 0 → n ≡ w / 2 ^ 29 → eqb n 3 ≡ marked (take u j)
-unfolding marked marks
-marked_oldest zero w n j h l e f = absurd (h refl)
-marked_oldest (suc u) w n [] h l e f = absurd (not-suc-le-zero l)
-marked_oldest (suc u) w n (x ∷ j) h l e f = ap (λ (y : ℕ). eqb y 3) (f ∙ ap (λ (y : ℕ). y / 2 ^ 29) e)
+pub marked_oldest : (u w : ℕ) (j : List ℕ) → (u ≡ 0 → ⊥) → u ≤ length j → w ≡ get_or j 0 0 → marks w ≡ marked (take u j)
+unfolding marked
+marked_oldest zero w j h l e = absurd (h refl)
+marked_oldest (suc u) w [] h l e = absurd (not-suc-le-zero l)
+marked_oldest (suc u) w (x ∷ j) h l e = ap marks e
 
 -- ---- the loop
 

@@ -1,15 +1,7 @@
 -- The answer is the true one. By induction on the kept steps: after their records the trail names the newest of them that stored to the cell, and since then
 -- the cell has kept its byte.
-use mathlib.Core.Path.{◌≡◌, refl, ◌∙◌, ap, ap₂, sym, subst}
-use mathlib.Core.Bool.{Bool, true, false}
-use mathlib.Core.List.{List, [], ◌∷◌, ◌++◌, map}
-use Prim.Native.Nat.{ℕ, zero, suc, ◌%◌, ◌≤◌, ◌<◌}
-use native.Mathlib.Nat.{not-suc-le-zero}
-use native.Mathlib.Omega.{arith}
-use lib.Dec.{ltb, eqb}
-use lib.ListN.{length, get_or, set}
-use lib.Seq.{get_or-set_other}
-use borrow.Author.Tests.{eqb-true, eqb-false, eq-eqb, lt-ltb}
+use Rattle.std.proofs.Common.{◌≡◌, refl, ◌∙◌, ap, ap₂, sym, subst, Bool, true, false, List, [], ◌∷◌, ◌++◌, map, ℕ, zero, suc, ◌%◌, ◌≤◌, ◌<◌, not-suc-le-zero, arith, ltb, eqb, length, get_or, set, get_or-set_other, eqb-true, eq-eqb, lt-ltb}
+use borrow.Author.Tests.{eqb-false}
 use Rattle.rules.specs.Machine.{pick, ◌also◌, Kind, cpu, vdp, register, grom, Area, area_of, extent, writable, Mem, area, State, address, cells, put}
 use Rattle.rules.specs.Answers.{number, answer_for, wrong_length, no_record}
 use Rattle.rules.specs.Journal.{kind_number, Store, word_of, make, Note, stood, mark, nothing, note, sound, used_words}

@@ -1,12 +1,5 @@
 -- 12 goes by step-back's rule: the words are whole exactly if a step-back finds a record from the used count, and from each lower one. By the word at the top.
-use mathlib.Core.Path.{◌≡◌, refl, ◌∙◌, ap, sym, subst}
-use mathlib.Core.Bool.{Bool, true, false}
-use mathlib.Core.List.{List, [], ◌∷◌}
-use Prim.Native.Nat.{ℕ, zero, suc, ◌/◌, ◌%◌, ◌^◌, ◌≤◌, ◌<◌}
-use native.Mathlib.Omega.{arith}
-use lib.ListN.{length, get_or, take}
-use lib.Seq.{get_or-take, length-take-le}
-use borrow.Author.Tests.{eqb-true}
+use Rattle.std.proofs.Common.{◌≡◌, refl, ◌∙◌, ap, sym, subst, Bool, true, false, List, [], ◌∷◌, ℕ, zero, suc, ◌/◌, ◌%◌, ◌^◌, ◌≤◌, ◌<◌, arith, length, get_or, take, get_or-take, length-take-le, eqb-true}
 use Rattle.rules.specs.Machine.{pick, Area}
 use Rattle.rules.specs.Journal.{Note, stood, mark, nothing, note_of, note, sound, marks}
 use Rattle.rules.specs.Calls.{Find, found, lost, further, passed, seen, scan}

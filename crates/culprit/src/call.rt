@@ -1,14 +1,15 @@
 // The public call: test 11, then the journal's own test, then who wrote the cell.
+// The parts stand one by one, as in every call that C makes.
 ghost use Rattle.std.specs.Prelude.{◌≡◌};
 ghost use Rattle.culprit.specs.Culprit.{who_wrote};
-ghost use Rattle.culprit.specs.Meaning.{seen, kind_of, wrote_of};
+ghost use Rattle.machine.specs.Meaning.{kind_of};
+ghost use Rattle.culprit.specs.Meaning.{seen, wrote_of};
 
 use crate::trail;
-use crate::trail::{Cell, Wrote};
+use crate::trail::{Refusal, Wrote};
 use bench::at::At;
 use bench::fits;
-use machine::answers::Why;
-use ring::book::Book;
+use machine::memory::Memory;
 
 // Of any machine and any cell. Nothing is lent to be changed.
 pub fn who_wrote(
@@ -18,7 +19,7 @@ pub fn who_wrote(
     regs: &[u8],
     journal: &[u32],
     at: At,
-    which: Cell,
+    which: Memory,
     cell: u16,
 ) -> Wrote
     ensures { wrote_of result ≡ who_wrote (kind_of which) cell (seen image pad vram regs journal at).mem }
@@ -32,24 +33,17 @@ pub fn who_wrote(
         at,
     );
     if !fit {
-        return trail::refused(Why::WrongLength);
+        return Err(Refusal::WrongLength);
     }
-    let book = Book {
-        used: at.used,
-        older: at.used,
-        place: at.place,
-        ring: at.ring,
-    };
-    let there = cell as usize;
     trail::who(
         image,
         pad,
         vram,
         regs,
         journal,
-        book,
+        at.book(),
         at.writable,
         which,
-        there,
+        cell as usize,
     )
 }

@@ -1,26 +1,18 @@
-// The kept words, oldest first, and what they say of one cell.
-ghost use Rattle.std.specs.Prelude.{◌≡◌, ◌+◌, ◌/◌, ◌%◌, ◌≤◌, ◌<◌, ◌^◌, eqb, length, get_or, take};
-ghost use Rattle.rules.specs.Machine.{◌also◌, upon, area_of};
-ghost use Rattle.rules.specs.Answers.{number, saying};
-ghost use Rattle.rules.specs.Journal.{kind_number, note, turned};
-ghost use Rattle.machine.specs.Meaning.{why_of};
+// The kept words, oldest first, and what they say of one cell. The parts come as the public call was lent them.
+ghost use Rattle.std.specs.Prelude.{◌≡◌, ◌+◌, ◌≤◌, ◌<◌, ◌^◌, length, get_or, take};
+ghost use Rattle.rules.specs.Machine.{upon, area_of};
+ghost use Rattle.rules.specs.Answers.{number};
+ghost use Rattle.rules.specs.Journal.{note, turned};
+ghost use Rattle.machine.specs.Meaning.{kind_of};
 ghost use Rattle.culprit.specs.Culprit as culprit;
-ghost use Rattle.culprit.specs.Culprit.{trail, later, stamped, marked, refusal, answered, fit_who};
-ghost use Rattle.culprit.specs.Meaning.{seen_by, kind_of, wrote_of, trail_of, Tells};
+ghost use Rattle.culprit.specs.Culprit.{same_cell, trail, later, stamped, told, marked, answered, fit_who};
+ghost use Rattle.culprit.specs.Meaning.{seen_by, why_in, found_of, wrote_of, after_of, trail_of};
 
-use machine::answers;
 use machine::answers::Why;
+use machine::memory::Memory;
+use machine::notes::Note;
 use ring::book;
 use ring::book::Book;
-
-// Which memory the cell is of.
-#[derive(Clone, Copy)]
-pub enum Cell {
-    Cpu,
-    Vdp,
-    Register,
-    Grom,
-}
 
 // The step: how many kept ones came after it, where it began, and the bytes before it and after it.
 #[derive(Clone, Copy)]
@@ -31,40 +23,41 @@ pub struct Culprit {
     pub left: u8,
 }
 
+// Why no step is looked for.
 #[derive(Clone, Copy)]
-pub enum Wrote {
-    Step(Culprit),
-    NoneKept,
-    // 11 or 12
-    Refused(u8),
+pub enum Refusal {
+    WrongLength,
+    NoRecord,
 }
 
-// Of the words so far: where the newest step began; and, if one stored to the cell, the newest of them.
+impl Refusal {
+    // As a call says it: 11 or 12.
+    pub fn number(self) -> u8
+        ensures { result ≡ number (why_in self) }
+    {
+        match self {
+            Refusal::WrongLength => Why::WrongLength.number(),
+            Refusal::NoRecord => Why::NoRecord.number(),
+        }
+    }
+}
+
+// The step, or that none was kept.
+pub type Wrote = Result<Option<Culprit>, Refusal>;
+
+// The newest of the steps that stored to the cell: how many came after it, where it began, and the byte that stood there before it.
 #[derive(Clone, Copy)]
-pub struct Trail {
-    pub pc: u16,
-    pub found: bool,
+pub struct Writer {
     pub after: usize,
-    pub from: u16,
+    pub pc: u16,
     pub before: u8,
 }
 
-pub(crate) fn refused(why: Why) -> Wrote
-    ensures { wrote_of result ≡ refusal (saying (number (why_of why)) 0) }
-{
-    Wrote::Refused(answers::number(why))
-}
-
-// Its number in the journal's words, so that a word's kind is compared as it stands.
-fn kind(c: Cell) -> u32
-    ensures { result ≡ kind_number (kind_of c) }
-{
-    match c {
-        Cell::Cpu => 0,
-        Cell::Vdp => 1,
-        Cell::Register => 2,
-        Cell::Grom => 4,
-    }
+// Of the words so far: where the newest step began; and who stored to the cell.
+#[derive(Clone, Copy)]
+pub struct Trail {
+    pub pc: u16,
+    pub by: Option<Writer>,
 }
 
 // Every word has a mark below it if the oldest is one.
@@ -72,85 +65,78 @@ fn begins(journal: &[u32], b: Book) -> bool
     requires { b.used ≤ length journal.now }
     ensures { result ≡ marked (take b.used (turned b.ring b.place journal.now)) }
 {
-    if b.used == 0 {
-        return true;
-    }
-    let w = book::word_at(journal, b, 0);
-    number::words::kind_of(w) == 3
-}
-
-// Whether a store's word names the cell.
-fn names(w: u32, kind: u32, at: usize) -> bool
-    ensures { result ≡ (eqb kind (w / 2 ^ 29) also eqb at (w % 2 ^ 29 / 256)) }
-{
-    if kind != number::words::kind_of(w) {
-        return false;
-    }
-    let cell = number::words::cell_of(w);
-    let there = cell as usize;
-    at == there
+    b.used == 0 || number::words::is_mark(book::word_at(journal, b, 0))
 }
 
 // A step more: of whoever stored to the cell it came after.
 fn began(t: Trail, pc: u16) -> Trail
-    requires { t.after + 1 < 2 ^ 64 }
-    ensures { (trail_of result ≡ trail pc (later (trail_of t).by)) × (result.after ≤ t.after + 1) }
+    requires { after_of t + 1 < 2 ^ 64 }
+    ensures { (trail_of result ≡ trail pc (later (trail_of t).by)) × (after_of result ≤ after_of t + 1) }
 {
-    let after = t.after + 1;
-    Trail {
-        pc,
-        found: t.found,
-        after,
-        from: t.from,
-        before: t.before,
-    }
+    let by = match t.by {
+        Some(by) => Some(Writer {
+            after: by.after + 1,
+            ..by
+        }),
+        None => None,
+    };
+    Trail { pc, by }
 }
 
 // A store to the cell: the newest step's first one has the byte before it.
 fn stored(t: Trail, b: u8) -> Trail
-    ensures { (trail_of result ≡ trail t.pc (stamped t.pc b (trail_of t).by)) × (result.after ≤ t.after) }
+    ensures { (trail_of result ≡ trail t.pc (stamped t.pc b (trail_of t).by)) × (after_of result ≤ after_of t) }
 {
-    if t.found {
-        if t.after == 0 {
+    if let Some(by) = t.by {
+        if by.after == 0 {
             return t;
         }
     }
+    let by = Writer {
+        after: 0,
+        pc: t.pc,
+        before: b,
+    };
     Trail {
         pc: t.pc,
-        found: true,
-        after: 0,
-        from: t.pc,
-        before: b,
+        by: Some(by),
     }
 }
 
-// One sound word more.
-fn tell(t: Trail, kind: u32, at: usize, w: u32) -> Trail
-    requires { t.after + 1 < 2 ^ 64 }
-    ensures { Tells kind at w t result × (result.after ≤ t.after + 1) }
+// Whether a store's cell is the one that is asked for.
+fn is_it(kind: Memory, there: usize, which: Memory, at: usize) -> bool
+    ensures { result ≡ same_cell (kind_of which) at (kind_of kind) there }
 {
-    if number::words::kind_of(w) == 3 {
-        let pc = (w % 65536) as u16;
-        return began(t, pc);
+    which == kind && at == there
+}
+
+// One word more.
+fn tell(t: Trail, which: Memory, at: usize, w: u32) -> Trail
+    requires { after_of t + 1 < 2 ^ 64 }
+    ensures { (trail_of result ≡ told (kind_of which) at (note w) (trail_of t)) × (after_of result ≤ after_of t + 1) }
+{
+    match Note::of(w) {
+        Some(Note::Stood(kind, there, b)) => {
+            if is_it(kind, there, which, at) {
+                stored(t, b)
+            } else {
+                t
+            }
+        }
+        Some(Note::Mark(a)) => began(t, (a % 65536) as u16),
+        None => t,
     }
-    if !names(w, kind, at) {
-        return t;
-    }
-    stored(t, number::words::byte_of(w))
 }
 
 // The step that was found, with the byte that stands in the cell.
-fn named(t: Trail, left: u8) -> Wrote
-    ensures { wrote_of result ≡ culprit.named left (trail_of t).by }
+fn named(t: Trail, left: u8) -> Option<Culprit>
+    ensures { found_of result ≡ culprit.named left (trail_of t).by }
 {
-    let kept = t.found;
-    if !kept {
-        return Wrote::NoneKept;
-    }
-    Wrote::Step(Culprit {
-        after: t.after,
-        pc: t.from,
-        before: t.before,
+    let by = t.by?;
+    Some(Culprit {
+        after: by.after,
+        pc: by.pc,
+        before: by.before,
         left,
     })
 }
@@ -161,35 +147,25 @@ fn trace(
     b: Book,
     size: usize,
     groups: u8,
-    which: Cell,
+    which: Memory,
     at: usize,
     left: u8,
 ) -> Wrote
     requires { b.used ≤ length journal.now }
     ensures { wrote_of result ≡ answered (area_of size groups) (kind_of which) at left (take b.used (turned b.ring b.place journal.now)) }
 {
-    let used = b.used;
-    let of = kind(which);
     if !begins(journal, b) {
-        return refused(Why::NoRecord);
+        return Err(Refusal::NoRecord);
     }
-    let mut t = Trail {
-        pc: 0,
-        found: false,
-        after: 0,
-        from: 0,
-        before: 0,
-    };
-    let mut u: usize = 0;
-    while u < used {
+    let mut t = Trail { pc: 0, by: None };
+    for u in 0..b.used {
         let w = book::word_at(journal, b, u);
         if !machine::journal::sound(w, size, groups) {
-            return refused(Why::NoRecord);
+            return Err(Refusal::NoRecord);
         }
-        t = tell(t, of, at, w);
-        u += 1;
+        t = tell(t, which, at, w);
     }
-    named(t, left)
+    Ok(named(t, left))
 }
 
 // The byte in a cell; 0 where there is no such cell, which no sound word names.
@@ -203,14 +179,14 @@ fn byte_in(memory: &[u8], at: usize) -> u8
 }
 
 // The byte that stands in the cell now: no later kept step stored there, so the one that is found left it.
-fn standing(image: &[u8], pad: &[u8], vram: &[u8], regs: &[u8], which: Cell, at: usize) -> u8
+fn standing(image: &[u8], pad: &[u8], vram: &[u8], regs: &[u8], which: Memory, at: usize) -> u8
     ensures { result ≡ get_or (upon (kind_of which) pad.now vram.now regs.now image.now) at 0 }
 {
     match which {
-        Cell::Cpu => byte_in(pad, at),
-        Cell::Vdp => byte_in(vram, at),
-        Cell::Register => byte_in(regs, at),
-        Cell::Grom => byte_in(image, at),
+        Memory::Cpu => byte_in(pad, at),
+        Memory::Vdp => byte_in(vram, at),
+        Memory::Register => byte_in(regs, at),
+        Memory::Grom => byte_in(image, at),
     }
 }
 
@@ -223,7 +199,7 @@ pub fn who(
     journal: &[u32],
     b: Book,
     groups: u8,
-    which: Cell,
+    which: Memory,
     at: usize,
 ) -> Wrote
     requires { b.used ≤ length journal.now }

@@ -1,7 +1,5 @@
 -- Who wrote a cell, by the memory's number: the rules' answer of its kind, or where it has no cell what that leaves.
-use mathlib.Core.Path.{◌≡◌, refl, ◌∙◌, ap}
-use mathlib.Core.Bool.{Bool, true, false}
-use Prim.Native.Nat.{ℕ}
+use Rattle.std.proofs.Common.{◌≡◌, refl, ◌∙◌, ap, Bool, true, false, ℕ}
 use Rattle.rules.specs.Machine.{Kind, cpu, vdp, register, grom, Mem}
 use Rattle.rules.specs.Journal.{kind_number}
 use Rattle.culprit.specs.Culprit.{Wrote, who_wrote}

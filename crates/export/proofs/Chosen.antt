@@ -1,10 +1,6 @@
 -- No call alters what the caller chose, the writable groups and the mode: a step's stores leave them, and so does what takes words off. So what `bench` hands back is
 -- what was lent.
-use mathlib.Core.Path.{◌≡◌, refl, ◌∙◌, ap, ap₂}
-use mathlib.Core.Bool.{Bool, true, false}
-use mathlib.Core.List.{List}
-use Prim.Native.Nat.{ℕ, zero, suc}
-use lib.ListN.{get_or, length}
+use Rattle.std.proofs.Common.{◌≡◌, refl, ◌∙◌, ap, ap₂, Bool, true, false, List, ℕ, zero, suc, get_or, length}
 use Rattle.rules.specs.Machine.{pick, area, Mem, State}
 use Rattle.rules.specs.Answers.{answer_for, wrong_length}
 use Rattle.rules.specs.Journal.{Store, Note, stood, mark, nothing, note, restore, undo_top, undo}

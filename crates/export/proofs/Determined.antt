@@ -1,11 +1,5 @@
 -- Each contract of the calls for C determines what it speaks of: two outcomes that it allows are equal, every lent byte, the answer and all of `out`.
-use mathlib.Core.Path.{◌≡◌, refl, ◌∙◌, ap, sym}
-use mathlib.Core.Bool.{not}
-use mathlib.Core.List.{List, [], ◌∷◌}
-use Prim.Native.Nat.{ℕ, zero, suc}
-use native.Mathlib.Omega.{arith}
-use lib.Dec.{eqb}
-use lib.ListN.{length, get_or}
+use Rattle.std.proofs.Common.{◌≡◌, refl, ◌∙◌, ap, sym, not, List, [], ◌∷◌, ℕ, zero, suc, arith, eqb, length, get_or}
 use Rattle.rules.specs.Machine.{pick, State}
 use Rattle.rules.specs.Calls.{Report}
 use Rattle.ring.proofs.Turned.{turned_back}

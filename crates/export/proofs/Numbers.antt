@@ -1,12 +1,5 @@
 -- The numbers that come out, as what the rules say.
-use mathlib.Core.Path.{◌≡◌, refl, ◌∙◌, ap, sym}
-use mathlib.Core.Bool.{Bool, true, false, not}
-use mathlib.Core.List.{List, [], ◌∷◌}
-use Prim.Native.Nat.{ℕ, zero, suc, ◌+◌}
-use native.Mathlib.Omega.{arith}
-use lib.Dec.{eqb}
-use lib.ListN.{length}
-use borrow.Author.Tests.{ne_eqb}
+use Rattle.std.proofs.Common.{◌≡◌, refl, ◌∙◌, ap, sym, Bool, true, false, not, List, [], ◌∷◌, ℕ, zero, suc, ◌+◌, arith, eqb, length, ne_eqb}
 use Rattle.rules.specs.Machine.{pick, State}
 use Rattle.rules.specs.Answers.{saying, well, answer_for, wrong_length}
 use Rattle.rules.specs.Calls.{instruction, tick, fits, Reply, done, refused, answer, left, step, step_stores, made, Report, report, onto, steps, run}

@@ -1,11 +1,5 @@
 -- What the viewer shows, by an offset and a length.
-use mathlib.Core.Path.{◌≡◌, refl, ◌∙◌, ap, sym}
-use mathlib.Core.Bool.{Bool, true, false}
-use mathlib.Core.List.{List, [], ◌∷◌}
-use Prim.Native.Nat.{ℕ, zero, suc, ◌+◌}
-use lib.Dec.{eqb, leb}
-use lib.ListN.{length, take, drop}
-use borrow.Author.Tests.{ne_eqb, eq-eqb}
+use Rattle.std.proofs.Common.{◌≡◌, refl, ◌∙◌, ap, sym, Bool, true, false, List, [], ◌∷◌, ℕ, zero, suc, ◌+◌, eqb, leb, length, take, drop, ne_eqb, eq-eqb}
 use Rattle.rules.specs.Machine.{pick, ◌also◌, cpu, vdp, size, reach}
 use Rattle.rules.specs.Calls.{Memory, cpu_ram, vdp_ram, kind_of, viewed, view}
 use Rattle.export.specs.Meaning.{bytes_of, shown, named, Shows}

@@ -1,4 +1,5 @@
 // The public calls for C and Rust; `export_c` gives them their names in C. Nothing is asked of a caller but what the types say.
+// Parts, flags and answers stand one by one and as numbers, since C takes them so.
 #![tactic(auto)]
 
 pub mod dump;
@@ -17,13 +18,6 @@ use bench::viewer::Memory;
 
 // ---- steps
 
-// A flag as a number.
-fn flag(b: bool) -> u64
-    ensures { result ≡ pick b 1 0 }
-{
-    if b { 1 } else { 0 }
-}
-
 // The seven numbers in their order.
 pub(crate) fn tell(out: &mut [u64; 7], at: At, steps: u64, stores: u64, address: u16)
     ensures { out.new ≡ at.pc ∷ at.used ∷ steps ∷ stores ∷ address ∷ at.place ∷ pick at.source 1 0 ∷ [] }
@@ -35,7 +29,7 @@ pub(crate) fn tell(out: &mut [u64; 7], at: At, steps: u64, stores: u64, address:
         stores,
         address as u64,
         at.place as u64,
-        flag(at.source),
+        u64::from(at.source),
     ];
 }
 
@@ -68,7 +62,7 @@ pub fn argolythe_step(
     )
 }
 
-// Up to n steps.
+// Up to n steps. The address is written out in each call: through a function that makes it, what `bench` ensures of its parts could not be rewritten.
 pub fn argolythe_run(
     image: &mut [u8],
     pad: &mut [u8],
@@ -86,20 +80,16 @@ pub fn argolythe_run(
 ) -> u8
     ensures { Hears (run n) (Image image & Groups writable & Pad pad & Vram vdp & Regs reg & Journal journal) pc used ring place writable source result out }
 {
-    let ring = ring != 0;
-    let source = source != 0;
     let start = At {
         pc,
         used,
-        ring,
+        ring: ring != 0,
         place,
         writable,
-        source,
+        source: source != 0,
     };
     let r = bench::runs::run(image, pad, vdp, reg, journal, start, n);
-    let steps = r.steps as u64;
-    let at = r.at;
-    tell(out, at, steps, r.stores, r.address);
+    tell(out, r.at, r.steps as u64, r.stores, r.address);
     r.answer
 }
 
@@ -120,20 +110,17 @@ pub fn argolythe_step_back(
 ) -> u8
     ensures { Hears one_back (Image image & Groups writable & Pad pad & Vram vdp & Regs reg & Journal journal) pc used ring place writable source result out }
 {
-    let ring = ring != 0;
-    let source = source != 0;
     let start = At {
         pc,
         used,
-        ring,
+        ring: ring != 0,
         place,
         writable,
-        source,
+        source: source != 0,
     };
     let r = bench::walk::step_back(image, pad, vdp, reg, journal, start);
     let steps = steps_of(r.answer);
-    let at = r.at;
-    tell(out, at, steps, r.stores, r.address);
+    tell(out, r.at, steps, r.stores, r.address);
     r.answer
 }
 
@@ -143,13 +130,11 @@ pub fn argolythe_step_back(
 fn seen<'a>(pad: &'a [u8], vdp: &'a [u8], memory: u8, at: usize, len: usize) -> usize
     ensures { result ≡ length (shown memory pad.now vdp.now at len) }
 {
-    if memory == 0 {
-        return bench::viewer::view(pad, vdp, Memory::Cpu, at, len).len();
+    match memory {
+        0 => bench::viewer::view(pad, vdp, Memory::Cpu, at, len).len(),
+        1 => bench::viewer::view(pad, vdp, Memory::Vdp, at, len).len(),
+        _ => 0,
     }
-    if memory == 1 {
-        return bench::viewer::view(pad, vdp, Memory::Vdp, at, len).len();
-    }
-    0
 }
 
 // A length, 0 where nothing is shown, and an offset into the caller's own bytes.

@@ -23,19 +23,15 @@ pub fn argolythe_run_mapped(
 ) -> u8
     ensures { HearsMapped n (Image image & Groups writable & Pad pad & Vram vdp & Regs reg & Journal journal) map pc used ring place writable source result out }
 {
-    let ring = ring != 0;
-    let source = source != 0;
     let start = At {
         pc,
         used,
-        ring,
+        ring: ring != 0,
         place,
         writable,
-        source,
+        source: source != 0,
     };
     let r = bench::runs::run_mapped(image, map, pad, vdp, reg, journal, start, n);
-    let steps = r.steps as u64;
-    let at = r.at;
-    crate::tell(out, at, steps, r.stores, r.address);
+    crate::tell(out, r.at, r.steps as u64, r.stores, r.address);
     r.answer
 }

@@ -23,20 +23,17 @@ pub fn argolythe_tick(
 ) -> u8
     ensures { HearsTick (Image image & Groups writable & Pad pad & Vram vdp & Regs reg & Journal journal) pc used ring place writable source output result sent out }
 {
-    let ring = ring != 0;
-    let source = source != 0;
     let start = At {
         pc,
         used,
-        ring,
+        ring: ring != 0,
         place,
         writable,
-        source,
+        source: source != 0,
     };
     let r = bench::ticks::tick(image, pad, vdp, reg, journal, start, output);
     *sent = r.sent;
     let steps = crate::steps_of(r.answer);
-    let at = r.at;
-    crate::tell(out, at, steps, r.stores, r.address);
+    crate::tell(out, r.at, steps, r.stores, r.address);
     r.answer
 }

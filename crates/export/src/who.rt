@@ -1,36 +1,32 @@
 // Who wrote a cell, for C and Rust.
 ghost use Rattle.std.specs.Prelude.{◌≡◌};
-ghost use Rattle.culprit.specs.Meaning.{kind_of, wrote_of};
+ghost use Rattle.machine.specs.Meaning.{kind_of};
+ghost use Rattle.culprit.specs.Meaning.{wrote_of};
 ghost use Rattle.export.specs.Meaning.{stands};
-ghost use Rattle.export.specs.Who.{kind_in, has_cells, unfound, NumbersOf, SaysWho};
+ghost use Rattle.export.specs.Who;
+ghost use Rattle.export.specs.Who.{has_cells, unfound, NumbersOf, SaysWho};
 
 use bench::at::At;
-use culprit::trail::{Cell, Wrote};
+use culprit::trail::Wrote;
+use machine::memory::Memory;
 
 // The kind that a memory's number is of.
-fn kind_in(memory: u8) -> Cell
-    ensures { kind_of result ≡ kind_in memory }
+fn kind_of(memory: u8) -> Memory
+    ensures { kind_of result ≡ Who.kind_in memory }
 {
-    if memory == 1 {
-        return Cell::Vdp;
+    match memory {
+        1 => Memory::Vdp,
+        2 => Memory::Register,
+        4 => Memory::Grom,
+        _ => Memory::Cpu,
     }
-    if memory == 2 {
-        return Cell::Register;
-    }
-    if memory == 4 {
-        return Cell::Grom;
-    }
-    Cell::Cpu
 }
 
 // Whether it is the number of a kind: 3 is a mark's.
 fn has_cells(memory: u8) -> bool
     ensures { result ≡ has_cells memory }
 {
-    if memory == 3 {
-        return false;
-    }
-    memory < 5
+    memory != 3 && memory < 5
 }
 
 // Of no cell: what is refused stays so, and no step is named.
@@ -38,9 +34,8 @@ fn unfound(w: Wrote) -> Wrote
     ensures { wrote_of result ≡ unfound (wrote_of w) }
 {
     match w {
-        Wrote::Step(_) => Wrote::NoneKept,
-        Wrote::NoneKept => Wrote::NoneKept,
-        Wrote::Refused(n) => Wrote::Refused(n),
+        Ok(_) => Ok(None),
+        Err(why) => Err(why),
     }
 }
 
@@ -48,8 +43,9 @@ fn unfound(w: Wrote) -> Wrote
 fn tell(w: Wrote, out: &mut [u64; 5]) -> u8
     ensures { NumbersOf (wrote_of w) result out }
 {
+    *out = [0; 5];
     match w {
-        Wrote::Step(c) => {
+        Ok(Some(c)) => {
             *out = [
                 1,
                 c.after as u64,
@@ -59,14 +55,8 @@ fn tell(w: Wrote, out: &mut [u64; 5]) -> u8
             ];
             0
         }
-        Wrote::NoneKept => {
-            *out = [0, 0, 0, 0, 0];
-            0
-        }
-        Wrote::Refused(n) => {
-            *out = [0, 0, 0, 0, 0];
-            n
-        }
+        Ok(None) => 0,
+        Err(why) => why.number(),
     }
 }
 
@@ -87,17 +77,15 @@ pub fn argolythe_who_wrote(
 ) -> u8
     ensures { SaysWho memory at image pad vdp reg journal (stands 0 used ring place writable 0) result out }
 {
-    let ring = ring != 0;
     let start = At {
         pc: 0,
         used,
-        ring,
+        ring: ring != 0,
         place,
         writable,
         source: false,
     };
-    let kind = kind_in(memory);
-    let w = culprit::call::who_wrote(image, pad, vdp, reg, journal, start, kind, at);
+    let w = culprit::call::who_wrote(image, pad, vdp, reg, journal, start, kind_of(memory), at);
     if has_cells(memory) {
         return tell(w, out);
     }

@@ -1,4 +1,5 @@
 // The calls under their names in C, which include/argolythe.h declares: each is the call of that name in `export`, whose clause stands here again.
+// The parameters are C's, one by one.
 #![tactic(auto)]
 
 pub mod dump;

@@ -1,105 +1,73 @@
 // BR and BS, B, CALL, RTN and RTNC. All but RTNC store a cleared condition: RTN before its pop, the others last.
 ghost use Rattle.std.specs.Prelude.{◌≡◌};
 ghost use Rattle.rules.specs.Instructions;
-ghost use Rattle.rules.specs.Instructions.{jump_in_group, jump_if, branch_rule, long_rule, call_rule, rtn_rule, rtnc_rule};
-ghost use Rattle.machine.specs.Meaning.{◌&◌, Does, IsPad, Journal, Map, Nothing, Pad, Ring, SeenImage};
+ghost use Rattle.rules.specs.Instructions.{jump_if, branch_rule, long_rule, call_rule, rtn_rule, rtnc_rule};
+ghost use Rattle.machine.specs.Meaning.{Does};
 
+use machine::answers::Why;
 use machine::cells;
-use machine::state::Now;
+use machine::memory::Memory;
+use machine::state::Machine;
+use number::{addresses, bits, words};
 use operand::{stacks, status};
-
-// To 13 bits within the group of pc.
-pub fn jump_in_group(m: Now, a: u16) -> Now
-    ensures { Does (jump_in_group a) Nothing m result }
-{
-    let target = number::addresses::in_group(m.pc, a);
-    machine::state::jump(m, target)
-}
-
-fn jump_if(m: Now, c: bool, a: u16) -> Now
-    ensures { Does (jump_if c a) Nothing m result }
-{
-    if c {
-        return jump_in_group(m, a);
-    }
-    m
-}
 
 // BS (`set`) is taken if the condition is set, BR if it is clear.
 fn taken(set: bool, condition: bool) -> bool
     ensures { result ≡ Instructions.taken set condition }
 {
-    if set {
-        return condition;
+    set == condition
+}
+
+// To 13 bits within the group of pc.
+#[tactic(auto, using(machine::proofs::Laws::choosing), unfolding(rules::specs::Instructions::jump_if, rules::specs::Instructions::jump_in_group))]
+fn jump_if(m: &mut Machine<'_>, taken: bool, a: u16) -> Result<(), Why>
+    ensures { Does (jump_if taken a) m result }
+{
+    if taken {
+        m.pc = addresses::in_group(m.pc, a);
     }
-    !condition
+    Ok(())
 }
 
-pub fn branch(
-    image: &[u8],
-    map: &mut [u8],
-    pad: &mut [u8],
-    journal: &mut [u32],
-    ring: &mut [usize],
-    m: Now,
-    set: bool,
-    upper: u8,
-) -> Now
-    requires { IsPad pad.old }
-    ensures { Does (branch_rule set upper) (SeenImage image & Map map & Pad pad & Journal journal & Ring ring) m result }
+#[tactic(auto, using(machine::proofs::Laws::steps), unfolding(rules::specs::Instructions::branch_rule))]
+pub fn branch(m: &mut Machine<'_>, set: bool, upper: u8) -> Result<(), Why>
+    ensures { Does (branch_rule set upper) m result }
 {
-    let lower = machine::grom::next_byte(image, map, m);
-    let s = machine::pad::peek_pad(pad, lower, cells::STATUS);
-    let condition = number::bits::bit(5, s.byte);
-    let target = number::words::word_of(upper, lower.byte);
-    let jumped = jump_if(s, taken(set, condition), target);
-    status::set_condition(pad, journal, ring, jumped, false)
+    let lower = m.next_byte()?;
+    let s = m.load(Memory::Cpu, cells::STATUS)?;
+    jump_if(m, taken(set, bits::bit(5, s)), words::word_of(upper, lower))?;
+    status::set_condition(m, false)
 }
 
-pub fn long(
-    image: &[u8],
-    map: &mut [u8],
-    pad: &mut [u8],
-    journal: &mut [u32],
-    ring: &mut [usize],
-    m: Now,
-) -> Now
-    requires { IsPad pad.old }
-    ensures { Does long_rule (SeenImage image & Map map & Pad pad & Journal journal & Ring ring) m result }
+#[tactic(auto, using(machine::proofs::Laws::steps), unfolding(rules::specs::Instructions::long_rule))]
+pub fn long(m: &mut Machine<'_>) -> Result<(), Why>
+    ensures { Does long_rule m result }
 {
-    let a = machine::grom::next_word(image, map, m);
-    let jumped = machine::state::jump(a, a.word);
-    status::set_condition(pad, journal, ring, jumped, false)
+    m.pc = m.next_word()?;
+    status::set_condition(m, false)
 }
 
-pub fn call(
-    image: &[u8],
-    map: &mut [u8],
-    pad: &mut [u8],
-    journal: &mut [u32],
-    ring: &mut [usize],
-    m: Now,
-) -> Now
-    requires { IsPad pad.old }
-    ensures { Does call_rule (SeenImage image & Map map & Pad pad & Journal journal & Ring ring) m result }
+#[tactic(auto, using(machine::proofs::Laws::steps), unfolding(rules::specs::Instructions::call_rule))]
+pub fn call(m: &mut Machine<'_>) -> Result<(), Why>
+    ensures { Does call_rule m result }
 {
-    let a = machine::grom::next_word(image, map, m);
-    let pushed = stacks::push_pc(pad, journal, ring, a);
-    let jumped = machine::state::jump(pushed, a.word);
-    status::set_condition(pad, journal, ring, jumped, false)
+    let a = m.next_word()?;
+    stacks::push_pc(m)?;
+    m.pc = a;
+    status::set_condition(m, false)
 }
 
-pub fn rtn(pad: &mut [u8], journal: &mut [u32], ring: &mut [usize], m: Now) -> Now
-    requires { IsPad pad.old }
-    ensures { Does rtn_rule (Pad pad & Journal journal & Ring ring) m result }
+#[tactic(auto, using(machine::proofs::Laws::steps), unfolding(rules::specs::Instructions::rtn_rule))]
+pub fn rtn(m: &mut Machine<'_>) -> Result<(), Why>
+    ensures { Does rtn_rule m result }
 {
-    let cleared = status::set_condition(pad, journal, ring, m, false);
-    stacks::pop_pc(pad, journal, ring, cleared)
+    status::set_condition(m, false)?;
+    stacks::pop_pc(m)
 }
 
-pub fn rtnc(pad: &mut [u8], journal: &mut [u32], ring: &mut [usize], m: Now) -> Now
-    requires { IsPad pad.old }
-    ensures { Does rtnc_rule (Pad pad & Journal journal & Ring ring) m result }
+#[tactic(auto, using(machine::proofs::Laws::steps), unfolding(rules::specs::Instructions::rtnc_rule))]
+pub fn rtnc(m: &mut Machine<'_>) -> Result<(), Why>
+    ensures { Does rtnc_rule m result }
 {
-    stacks::pop_pc(pad, journal, ring, m)
+    stacks::pop_pc(m)
 }

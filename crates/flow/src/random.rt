@@ -1,26 +1,24 @@
 // RAND: the seed at >C0 goes on, and >78 gets a random number of it.
 ghost use Rattle.rules.specs.Instructions.{rand_rule};
-ghost use Rattle.machine.specs.Meaning.{◌&◌, Does, IsPad, Journal, Map, Pad, Ring, SeenImage};
+ghost use Rattle.machine.specs.Meaning.{Does};
 
+use machine::answers::Why;
 use machine::cells;
-use machine::state::Now;
+use machine::memory::Memory;
+use machine::state::Machine;
+use number::random;
 
 // The seed is stored before the limit is read.
-pub fn rand(
-    image: &[u8],
-    map: &mut [u8],
-    pad: &mut [u8],
-    journal: &mut [u32],
-    ring: &mut [usize],
-    m: Now,
-) -> Now
-    requires { IsPad pad.old }
-    ensures { Does rand_rule (SeenImage image & Map map & Pad pad & Journal journal & Ring ring) m result }
+#[tactic(auto, using(machine::proofs::Laws::steps), unfolding(rules::specs::Instructions::rand_rule))]
+pub fn rand(m: &mut Machine<'_>) -> Result<(), Why>
+    ensures { Does rand_rule m result }
 {
-    let s = machine::pad::peek_pad_word(pad, m, cells::SEED);
-    let seed = number::random::next_seed(s.word);
-    let seeded = machine::pad::poke_pad_word(pad, journal, ring, s, cells::SEED, seed);
-    let limit = machine::grom::next_byte(image, map, seeded);
-    let b = number::random::random_of(seed, limit.byte);
-    machine::pad::poke_pad(pad, journal, ring, limit, cells::RANDOM_NUMBER, b)
+    let seed = random::next_seed(m.load_word(Memory::Cpu, cells::SEED)?);
+    m.store_word(Memory::Cpu, cells::SEED, seed)?;
+    let limit = m.next_byte()?;
+    m.store(
+        Memory::Cpu,
+        cells::RANDOM_NUMBER,
+        random::random_of(seed, limit),
+    )
 }

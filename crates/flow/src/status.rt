@@ -2,11 +2,13 @@
 ghost use Rattle.std.specs.Prelude.{◌≡◌};
 ghost use Rattle.rules.specs.Arithmetic;
 ghost use Rattle.rules.specs.Instructions.{test_rule};
-ghost use Rattle.machine.specs.Meaning.{◌&◌, Does, IsPad, Journal, Pad, Ring};
+ghost use Rattle.machine.specs.Meaning.{Does};
 ghost use Rattle.flow.specs.Meaning.{test_of};
 
+use machine::answers::Why;
 use machine::cells;
-use machine::state::Now;
+use machine::memory::Memory;
+use machine::state::Machine;
 
 // H, GT, CARRY, OVF: by the status bit that they test.
 #[derive(Clone, Copy)]
@@ -18,6 +20,7 @@ pub enum Test {
 }
 
 // The bit that a test asks for.
+#[tactic(auto, unfolding(rules::specs::Arithmetic::tested))]
 fn tested(t: Test, s: u8) -> bool
     ensures { result ≡ Arithmetic.tested (test_of t) s }
 {
@@ -29,11 +32,14 @@ fn tested(t: Test, s: u8) -> bool
     }
 }
 
-pub fn test_status(pad: &mut [u8], journal: &mut [u32], ring: &mut [usize], m: Now, t: Test) -> Now
-    requires { IsPad pad.old }
-    ensures { Does (test_rule (test_of t)) (Pad pad & Journal journal & Ring ring) m result }
+#[tactic(auto, using(machine::proofs::Laws::steps), unfolding(rules::specs::Instructions::test_rule))]
+pub fn test_status(m: &mut Machine<'_>, t: Test) -> Result<(), Why>
+    ensures { Does (test_rule (test_of t)) m result }
 {
-    let s = machine::pad::peek_pad(pad, m, cells::STATUS);
-    let b = number::sums::with_condition(tested(t, s.byte), s.byte);
-    machine::pad::poke_pad(pad, journal, ring, s, cells::STATUS, b)
+    let s = m.load(Memory::Cpu, cells::STATUS)?;
+    m.store(
+        Memory::Cpu,
+        cells::STATUS,
+        number::sums::with_condition(tested(t, s), s),
+    )
 }

@@ -1,200 +1,117 @@
 // The codes of a format string: one function for each kind, one that picks among them, and the loop.
-ghost use Rattle.std.specs.Prelude.{◌≡◌, ◌+◌, ◌-◌, ◌<◌, ◌≤◌};
-ghost use Rattle.rules.specs.Rules.{give};
+ghost use Rattle.std.specs.Prelude.{◌≡◌, ◌<◌, ◌≤◌};
 ghost use Rattle.rules.specs.Format;
-ghost use Rattle.rules.specs.Format.{on, count, open_block, close_block, repeat_block, block_turn};
-ghost use Rattle.rules.specs.Format.{end_inside, end_outside, end_code, grom_bias, operand_bias, last_row, code_rule, fmt_rule};
-ghost use Rattle.machine.specs.Meaning.{◌&◌, Does, IsPad, IsVram, Journal, Map, Nothing, Pad, Ring, SeenImage, Vram};
-ghost use Rattle.format.specs.Meaning.{Turns};
+ghost use Rattle.rules.specs.Format.{count, open_block, close_block, block_turn, end_inside, end_code, grom_bias, operand_bias, code_rule, fmt_rule};
+ghost use Rattle.machine.specs.Meaning.{valued, Does};
+ghost use Rattle.format.specs.Meaning.{turn_of, FewBlocks};
 
 use crate::{cursor, text};
 use machine::answers::Why;
 use machine::cells;
-use machine::state::Now;
+use machine::memory::Memory;
+use machine::state::Machine;
+use operand::stacks;
 
 const MOST_CODES: u16 = 16384;
 
-// Where a format string stands after a code: going on with a bias and so many blocks not yet closed, or at its end.
+// Where a format string goes on after a code: with a bias and so many blocks not yet closed. None: it has ended.
 #[derive(Clone, Copy)]
 pub struct Turn {
-    pub now: Now,
-    pub going: bool,
     pub bias: u8,
     pub blocks: u16,
-}
-
-fn go_on(m: Now, bias: u8, blocks: u16) -> Turn
-    ensures { (result.blocks ≡ blocks) × Turns (give (on bias blocks)) Nothing m result }
-{
-    Turn {
-        now: m,
-        going: true,
-        bias,
-        blocks,
-    }
 }
 
 // ---- blocks
 
 // The stack pointer up by 2, and there 256 minus the count.
-fn open_block(
-    pad: &mut [u8],
-    journal: &mut [u32],
-    ring: &mut [usize],
-    m: Now,
-    n: u16,
-    bias: u8,
-    blocks: u16,
-) -> Turn
-    requires { IsPad pad.old × (0 < n) × (n ≤ 32) × (blocks ≤ 16384) }
-    ensures { (result.blocks ≤ blocks + 1) × Turns (open_block n bias blocks) (Pad pad & Journal journal & Ring ring) m result }
+#[tactic(auto, using(machine::proofs::Laws::steps), unfolding(rules::specs::Format::open_block))]
+fn open_block(m: &mut Machine<'_>, n: u16, t: Turn) -> Result<Option<Turn>, Why>
+    requires { (0 < n) × (n ≤ 32) × (t.blocks ≤ 16384) }
+    ensures blocks { FewBlocks t.blocks result }
+    ensures does { Does (open_block n t.bias t.blocks) m (valued turn_of result) }
 {
-    let p = operand::stacks::raise(pad, journal, ring, m);
-    let at = p.byte as usize;
-    let rest = 256 - n;
-    let b = rest as u8;
-    let stored = machine::pad::poke_pad(pad, journal, ring, p, at, b);
-    let more = blocks + 1;
-    go_on(stored, bias, more)
+    let p = stacks::raise(m)?;
+    m.store(Memory::Cpu, p as usize, (256 - n) as u8)?;
+    Ok(Some(Turn {
+        blocks: t.blocks + 1,
+        ..t
+    }))
 }
 
-// A pointer down by 2; as the rule's difference does, it ends at 0.
-fn lowered(p: u8) -> u8
-    ensures { result ≡ p - 2 }
+#[tactic(auto, using(machine::proofs::Laws::steps), unfolding(rules::specs::Format::close_block))]
+fn close_block(m: &mut Machine<'_>, p: u8, t: Turn) -> Result<Option<Turn>, Why>
+    requires { 0 < t.blocks }
+    ensures blocks { FewBlocks t.blocks result }
+    ensures does { Does (close_block p t.bias t.blocks) m (valued turn_of result) }
 {
-    if p < 2 {
-        return 0;
-    }
-    p - 2
-}
-
-fn close_block(
-    pad: &mut [u8],
-    journal: &mut [u32],
-    ring: &mut [usize],
-    m: Now,
-    p: u8,
-    bias: u8,
-    blocks: u16,
-) -> Turn
-    requires { IsPad pad.old × (0 < blocks) }
-    ensures { (result.blocks ≤ blocks + 1) × Turns (close_block p bias blocks) (Pad pad & Journal journal & Ring ring) m result }
-{
-    let down = lowered(p);
-    let stored = machine::pad::poke_pad(pad, journal, ring, m, cells::SUB_POINTER, down);
-    let fewer = blocks - 1;
-    go_on(stored, bias, fewer)
-}
-
-fn repeat_block(m: Now, a: u16, bias: u8, blocks: u16) -> Turn
-    ensures { (result.blocks ≤ blocks + 1) × Turns (repeat_block a bias blocks) Nothing m result }
-{
-    let jumped = machine::state::jump(m, a);
-    go_on(jumped, bias, blocks)
+    m.store(Memory::Cpu, cells::SUB_POINTER, p.saturating_sub(2))?;
+    Ok(Some(Turn {
+        blocks: t.blocks - 1,
+        ..t
+    }))
 }
 
 // By the block's count, which is now n: closed at 0, else once more from a.
-fn block_turn(
-    pad: &mut [u8],
-    journal: &mut [u32],
-    ring: &mut [usize],
-    m: Now,
-    n: u8,
-    p: u8,
-    a: u16,
-    bias: u8,
-    blocks: u16,
-) -> Turn
-    requires { IsPad pad.old × (0 < blocks) }
-    ensures { (result.blocks ≤ blocks + 1) × Turns (block_turn n p a bias blocks) (Pad pad & Journal journal & Ring ring) m result }
+#[tactic(auto, using(machine::proofs::Laws::steps), unfolding(rules::specs::Format::block_turn, rules::specs::Format::repeat_block))]
+fn block_turn(m: &mut Machine<'_>, n: u8, p: u8, a: u16, t: Turn) -> Result<Option<Turn>, Why>
+    requires { 0 < t.blocks }
+    ensures blocks { FewBlocks t.blocks result }
+    ensures does { Does (block_turn n p a t.bias t.blocks) m (valued turn_of result) }
 {
     if n == 0 {
-        return close_block(pad, journal, ring, m, p, bias, blocks);
+        return close_block(m, p, t);
     }
-    repeat_block(m, a, bias, blocks)
+    m.pc = a;
+    Ok(Some(t))
 }
 
 // ---- ends
 
-fn end_inside(
-    image: &[u8],
-    map: &mut [u8],
-    pad: &mut [u8],
-    journal: &mut [u32],
-    ring: &mut [usize],
-    m: Now,
-    bias: u8,
-    blocks: u16,
-) -> Turn
-    requires { IsPad pad.old × (0 < blocks) }
-    ensures { (result.blocks ≤ blocks + 1) × Turns (end_inside bias blocks) (SeenImage image & Map map & Pad pad & Journal journal & Ring ring) m result }
+#[tactic(auto, using(machine::proofs::Laws::steps), unfolding(rules::specs::Format::end_inside))]
+fn end_inside(m: &mut Machine<'_>, t: Turn) -> Result<Option<Turn>, Why>
+    requires { 0 < t.blocks }
+    ensures blocks { FewBlocks t.blocks result }
+    ensures does { Does (end_inside t.bias t.blocks) m (valued turn_of result) }
 {
-    let a = machine::grom::next_word(image, map, m);
-    let p = machine::pad::peek_pad(pad, a, cells::SUB_POINTER);
-    let at = p.byte as usize;
-    let n = machine::pad::peek_pad(pad, p, at);
-    let up = std::num::wrapping_add_u8(n.byte, 1);
-    let stored = machine::pad::poke_pad(pad, journal, ring, n, at, up);
-    block_turn(pad, journal, ring, stored, up, p.byte, a.word, bias, blocks)
+    let a = m.next_word()?;
+    let p = m.load(Memory::Cpu, cells::SUB_POINTER)?;
+    let n = m.load(Memory::Cpu, p as usize)?.wrapping_add(1);
+    m.store(Memory::Cpu, p as usize, n)?;
+    block_turn(m, n, p, a, t)
 }
 
-fn end_outside(pad: &mut [u8], journal: &mut [u32], ring: &mut [usize], m: Now) -> Turn
-    requires { IsPad pad.old }
-    ensures { (result.blocks ≡ 0) × Turns end_outside (Pad pad & Journal journal & Ring ring) m result }
+// Outside of every block row and column are stored, and the string has ended.
+#[tactic(auto, using(machine::proofs::Laws::steps), unfolding(rules::specs::Format::end_code, rules::specs::Format::end_outside))]
+fn end_code(m: &mut Machine<'_>, t: Turn) -> Result<Option<Turn>, Why>
+    ensures blocks { FewBlocks t.blocks result }
+    ensures does { Does (end_code t.bias t.blocks) m (valued turn_of result) }
 {
-    let settled = cursor::settle_cursor(pad, journal, ring, m);
-    Turn {
-        now: settled,
-        going: false,
-        bias: 0,
-        blocks: 0,
+    if t.blocks == 0 {
+        cursor::settle_cursor(m)?;
+        return Ok(None);
     }
-}
-
-fn end_code(
-    image: &[u8],
-    map: &mut [u8],
-    pad: &mut [u8],
-    journal: &mut [u32],
-    ring: &mut [usize],
-    m: Now,
-    bias: u8,
-    blocks: u16,
-) -> Turn
-    requires { IsPad pad.old }
-    ensures { (result.blocks ≤ blocks + 1) × Turns (end_code bias blocks) (SeenImage image & Map map & Pad pad & Journal journal & Ring ring) m result }
-{
-    if blocks == 0 {
-        return end_outside(pad, journal, ring, m);
-    }
-    end_inside(image, map, pad, journal, ring, m, bias, blocks)
+    end_inside(m, t)
 }
 
 // ---- the bias
 
-fn grom_bias(image: &[u8], map: &mut [u8], m: Now, blocks: u16) -> Turn
-    ensures { (result.blocks ≤ blocks + 1) × Turns (grom_bias blocks) (SeenImage image & Map map) m result }
+#[tactic(auto, using(machine::proofs::Laws::steps), unfolding(rules::specs::Format::grom_bias))]
+fn grom_bias(m: &mut Machine<'_>, t: Turn) -> Result<Option<Turn>, Why>
+    ensures blocks { FewBlocks t.blocks result }
+    ensures does { Does (grom_bias t.blocks) m (valued turn_of result) }
 {
-    let b = machine::grom::next_byte(image, map, m);
-    go_on(b, b.byte, blocks)
+    let bias = m.next_byte()?;
+    Ok(Some(Turn { bias, ..t }))
 }
 
-fn operand_bias(
-    image: &[u8],
-    map: &mut [u8],
-    pad: &mut [u8],
-    journal: &mut [u32],
-    ring: &mut [usize],
-    m: Now,
-    blocks: u16,
-) -> Turn
-    requires { IsPad pad.old }
-    ensures { (result.blocks ≤ blocks + 1) × Turns (operand_bias blocks) (SeenImage image & Map map & Pad pad & Journal journal & Ring ring) m result }
+#[tactic(auto, using(machine::proofs::Laws::steps), unfolding(rules::specs::Format::operand_bias))]
+fn operand_bias(m: &mut Machine<'_>, t: Turn) -> Result<Option<Turn>, Why>
+    ensures blocks { FewBlocks t.blocks result }
+    ensures does { Does (operand_bias t.blocks) m (valued turn_of result) }
 {
-    let a = text::cpu_operand(image, map, pad, journal, ring, m);
-    let at = a.word as usize;
-    let b = machine::pad::peek_pad(pad, a, at);
-    go_on(b, b.byte, blocks)
+    let a = text::cpu_operand(m)?;
+    let bias = m.load(Memory::Cpu, a as usize)?;
+    Ok(Some(Turn { bias, ..t }))
 }
 
 // ---- any code
@@ -203,163 +120,56 @@ fn operand_bias(
 fn count_of(c: u8) -> u16
     ensures { result ≡ count c }
 {
-    let low = c % 32;
-    low as u16 + 1
+    c as u16 % 32 + 1
 }
 
-// Text, below >80: a step of 1 goes across, one of 32 down.
-fn text_code(
-    image: &[u8],
-    map: &mut [u8],
-    pad: &mut [u8],
-    vram: &mut [u8],
-    journal: &mut [u32],
-    ring: &mut [usize],
-    m: Now,
-    bias: u8,
-    blocks: u16,
-    c: u8,
-) -> Turn
-    requires { IsPad pad.old × IsVram vram.old × (c < 0x80) }
-    ensures { (result.blocks ≤ blocks + 1) × Turns (code_rule bias blocks c) (SeenImage image & Map map & Pad pad & Vram vram & Journal journal & Ring ring) m result }
+// A code that shows, skips or sets the cursor leaves bias and blocks as they are. A step of 1 goes across, one of 32 down.
+#[tactic(auto, using(machine::proofs::Laws::steps), unfolding(rules::specs::Format::code_rule, rules::specs::Format::last_row, rules::specs::Format::go_on))]
+fn by_code(m: &mut Machine<'_>, t: Turn, c: u8) -> Result<Option<Turn>, Why>
+    requires { t.blocks ≤ 16384 }
+    ensures blocks { FewBlocks t.blocks result }
+    ensures does { Does (code_rule t.bias t.blocks c) m (valued turn_of result) }
 {
     let n = count_of(c);
-    if c < 0x20 {
-        let across = text::text(image, map, pad, vram, journal, ring, m, n, 1, bias);
-        return go_on(across, bias, blocks);
+    match c {
+        0x00..=0x1F => text::text(m, n, 1, t.bias)?,
+        0x20..=0x3F => text::text(m, n, 32, t.bias)?,
+        0x40..=0x5F => text::repeat_text(m, n, 1, t.bias)?,
+        0x60..=0x7F => text::repeat_text(m, n, 32, t.bias)?,
+        0x80..=0x9F => cursor::skip(m, n)?,
+        0xA0..=0xBF => cursor::skip(m, n * 32)?,
+        0xC0..=0xDF => return open_block(m, n, t),
+        0xE0..=0xFA => text::operand_text(m, n, t.bias)?,
+        0xFB => return end_code(m, t),
+        0xFC => return grom_bias(m, t),
+        0xFD => return operand_bias(m, t),
+        0xFE => cursor::cursor_code(m, cells::ROW)?,
+        0xFF => cursor::cursor_code(m, cells::COLUMN)?,
     }
-    if c < 0x40 {
-        let down = text::text(image, map, pad, vram, journal, ring, m, n, 32, bias);
-        return go_on(down, bias, blocks);
-    }
-    if c < 0x60 {
-        let across = text::repeat_text(image, map, pad, vram, journal, ring, m, n, 1, bias);
-        return go_on(across, bias, blocks);
-    }
-    let down = text::repeat_text(image, map, pad, vram, journal, ring, m, n, 32, bias);
-    go_on(down, bias, blocks)
+    Ok(Some(t))
 }
 
-// A code of the last row, from >E0 up.
-fn last_row(
-    image: &[u8],
-    map: &mut [u8],
-    pad: &mut [u8],
-    vram: &mut [u8],
-    journal: &mut [u32],
-    ring: &mut [usize],
-    m: Now,
-    bias: u8,
-    blocks: u16,
-    c: u8,
-) -> Turn
-    requires { IsPad pad.old × IsVram vram.old }
-    ensures { (result.blocks ≤ blocks + 1) × Turns (last_row bias blocks c) (SeenImage image & Map map & Pad pad & Vram vram & Journal journal & Ring ring) m result }
+#[tactic(auto, using(machine::proofs::Laws::steps), unfolding(rules::specs::Format::code))]
+fn code(m: &mut Machine<'_>, t: Turn) -> Result<Option<Turn>, Why>
+    requires { t.blocks ≤ 16384 }
+    ensures blocks { FewBlocks t.blocks result }
+    ensures does { Does (Format.code t.bias t.blocks) m (valued turn_of result) }
 {
-    if c < 0xFB {
-        let shown = text::operand_text(image, map, pad, vram, journal, ring, m, count_of(c), bias);
-        return go_on(shown, bias, blocks);
-    }
-    if c < 0xFC {
-        return end_code(image, map, pad, journal, ring, m, bias, blocks);
-    }
-    if c < 0xFD {
-        return grom_bias(image, map, m, blocks);
-    }
-    if c < 0xFE {
-        return operand_bias(image, map, pad, journal, ring, m, blocks);
-    }
-    if c < 0xFF {
-        let row = cursor::cursor_code(image, map, pad, journal, ring, m, cells::ROW);
-        return go_on(row, bias, blocks);
-    }
-    let column = cursor::cursor_code(image, map, pad, journal, ring, m, cells::COLUMN);
-    go_on(column, bias, blocks)
-}
-
-fn by_code(
-    image: &[u8],
-    map: &mut [u8],
-    pad: &mut [u8],
-    vram: &mut [u8],
-    journal: &mut [u32],
-    ring: &mut [usize],
-    m: Now,
-    bias: u8,
-    blocks: u16,
-    c: u8,
-) -> Turn
-    requires { IsPad pad.old × IsVram vram.old × (blocks ≤ 16384) }
-    ensures { (result.blocks ≤ blocks + 1) × Turns (code_rule bias blocks c) (SeenImage image & Map map & Pad pad & Vram vram & Journal journal & Ring ring) m result }
-{
-    let n = count_of(c);
-    if c < 0x80 {
-        return text_code(image, map, pad, vram, journal, ring, m, bias, blocks, c);
-    }
-    if c < 0xA0 {
-        let across = cursor::skip(pad, journal, ring, m, n);
-        return go_on(across, bias, blocks);
-    }
-    if c < 0xC0 {
-        let cells = n * 32;
-        let down = cursor::skip(pad, journal, ring, m, cells);
-        return go_on(down, bias, blocks);
-    }
-    if c < 0xE0 {
-        return open_block(pad, journal, ring, m, n, bias, blocks);
-    }
-    last_row(image, map, pad, vram, journal, ring, m, bias, blocks, c)
-}
-
-fn code(
-    image: &[u8],
-    map: &mut [u8],
-    pad: &mut [u8],
-    vram: &mut [u8],
-    journal: &mut [u32],
-    ring: &mut [usize],
-    m: Now,
-    bias: u8,
-    blocks: u16,
-) -> Turn
-    requires { IsPad pad.old × IsVram vram.old × (blocks ≤ 16384) }
-    ensures { (result.blocks ≤ blocks + 1) × Turns (Format.code bias blocks) (SeenImage image & Map map & Pad pad & Vram vram & Journal journal & Ring ring) m result }
-{
-    let c = machine::grom::next_byte(image, map, m);
-    by_code(
-        image, map, pad, vram, journal, ring, c, bias, blocks, c.byte,
-    )
+    let c = m.next_byte()?;
+    by_code(m, t, c)
 }
 
 // At most 16,384 codes: the next is refused before it is read.
-pub fn format(
-    image: &[u8],
-    map: &mut [u8],
-    pad: &mut [u8],
-    vram: &mut [u8],
-    journal: &mut [u32],
-    ring: &mut [usize],
-    m: Now,
-) -> Now
-    requires { IsPad pad.old × IsVram vram.old }
-    ensures { Does fmt_rule (SeenImage image & Map map & Pad pad & Vram vram & Journal journal & Ring ring) m result }
+#[tactic(auto, using(machine::proofs::Laws::steps, crate::proofs::Laws::turns), unfolding(rules::specs::Format::fmt_rule))]
+pub fn format(m: &mut Machine<'_>) -> Result<(), Why>
+    ensures { Does fmt_rule m result }
 {
-    let mut x = m;
-    let mut bias: u8 = 0;
-    let mut blocks: u16 = 0;
-    let mut left: u16 = MOST_CODES;
-    while 0 < left {
-        let t = code(image, map, pad, vram, journal, ring, x, bias, blocks);
-        x = t.now;
-        if x.answer != 0 {
-            return x;
-        }
-        if !t.going {
-            return x;
-        }
-        bias = t.bias;
-        blocks = t.blocks;
-        left -= 1;
+    let mut t = Turn { bias: 0, blocks: 0 };
+    for _ in 0..MOST_CODES {
+        let Some(next) = code(m, t)? else {
+            return Ok(());
+        };
+        t = next;
     }
-    machine::state::need(x, false, Why::TooLong)
+    Err(Why::TooLong)
 }

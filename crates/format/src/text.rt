@@ -1,210 +1,97 @@
 // Text: characters from GROM, one character repeated, characters from the pad. Each is shown with the bias added.
-ghost use Rattle.std.specs.Prelude.{◌≡◌, ◌<◌, ◌≤◌};
+ghost use Rattle.std.specs.Prelude.{◌<◌, ◌≤◌};
 ghost use Rattle.rules.specs.Format;
-ghost use Rattle.rules.specs.Format.{show_next, show_times, repeat_text, is_cpu, cpu_operand, show_cell, pad_text, operand_text};
-ghost use Rattle.machine.specs.Meaning.{◌&◌, Does, Gives, IsPad, IsVram, Journal, Map, Pad, Ring, SeenImage, Vram};
-ghost use Rattle.operand.specs.Meaning.{cell_of};
+ghost use Rattle.rules.specs.Format.{show_next, show_times, repeat_text, cpu_operand, show_cell, pad_text, operand_text};
+ghost use Rattle.machine.specs.Meaning.{Does};
 
 use crate::cursor;
 use machine::answers::Why;
-use machine::state::Now;
+use machine::memory::Memory;
+use machine::state::Machine;
+use operand::decode;
 use operand::places::Place;
 
 // ---- from GROM
 
-fn show_next(
-    image: &[u8],
-    map: &mut [u8],
-    pad: &mut [u8],
-    vram: &mut [u8],
-    journal: &mut [u32],
-    ring: &mut [usize],
-    m: Now,
-    step: u16,
-    bias: u8,
-) -> Now
-    requires { IsPad pad.old × IsVram vram.old × (step ≤ 32) }
-    ensures { Does (show_next step bias) (SeenImage image & Map map & Pad pad & Vram vram & Journal journal & Ring ring) m result }
+#[tactic(auto, using(machine::proofs::Laws::steps), unfolding(rules::specs::Format::show_next))]
+fn show_next(m: &mut Machine<'_>, step: u16, bias: u8) -> Result<(), Why>
+    requires { step ≤ 32 }
+    ensures { Does (show_next step bias) m result }
 {
-    let ch = machine::grom::next_byte(image, map, m);
-    let b = std::num::wrapping_add_u8(ch.byte, bias);
-    cursor::show(pad, vram, journal, ring, ch, step, b)
+    let ch = m.next_byte()?;
+    cursor::show(m, step, ch.wrapping_add(bias))
 }
 
-// n characters, until one is refused.
-pub fn text(
-    image: &[u8],
-    map: &mut [u8],
-    pad: &mut [u8],
-    vram: &mut [u8],
-    journal: &mut [u32],
-    ring: &mut [usize],
-    m: Now,
-    n: u16,
-    step: u16,
-    bias: u8,
-) -> Now
-    requires { IsPad pad.old × IsVram vram.old × (step ≤ 32) }
-    ensures { Does (Format.text n step bias) (SeenImage image & Map map & Pad pad & Vram vram & Journal journal & Ring ring) m result }
+// n characters.
+#[tactic(auto, using(machine::proofs::Laws::looping), unfolding(rules::specs::Format::text))]
+pub fn text(m: &mut Machine<'_>, n: u16, step: u16, bias: u8) -> Result<(), Why>
+    requires { step ≤ 32 }
+    ensures { Does (Format.text n step bias) m result }
 {
-    let mut x = m;
-    let mut left = n;
-    while 0 < left {
-        x = show_next(image, map, pad, vram, journal, ring, x, step, bias);
-        if x.answer != 0 {
-            return x;
-        }
-        left -= 1;
+    for _ in 0..n {
+        show_next(m, step, bias)?;
     }
-    x
+    Ok(())
 }
 
-// One character n times, until it is refused.
-fn show_times(
-    pad: &mut [u8],
-    vram: &mut [u8],
-    journal: &mut [u32],
-    ring: &mut [usize],
-    m: Now,
-    n: u16,
-    step: u16,
-    b: u8,
-) -> Now
-    requires { IsPad pad.old × IsVram vram.old × (step ≤ 32) }
-    ensures { Does (show_times n step b) (Pad pad & Vram vram & Journal journal & Ring ring) m result }
+// One character n times. A loop of its own, as its rule has: one with `text` over a closure would be no plainer.
+#[tactic(auto, using(machine::proofs::Laws::looping), unfolding(rules::specs::Format::show_times))]
+fn show_times(m: &mut Machine<'_>, n: u16, step: u16, b: u8) -> Result<(), Why>
+    requires { step ≤ 32 }
+    ensures { Does (show_times n step b) m result }
 {
-    let mut x = m;
-    let mut left = n;
-    while 0 < left {
-        x = cursor::show(pad, vram, journal, ring, x, step, b);
-        if x.answer != 0 {
-            return x;
-        }
-        left -= 1;
+    for _ in 0..n {
+        cursor::show(m, step, b)?;
     }
-    x
+    Ok(())
 }
 
-pub fn repeat_text(
-    image: &[u8],
-    map: &mut [u8],
-    pad: &mut [u8],
-    vram: &mut [u8],
-    journal: &mut [u32],
-    ring: &mut [usize],
-    m: Now,
-    n: u16,
-    step: u16,
-    bias: u8,
-) -> Now
-    requires { IsPad pad.old × IsVram vram.old × (step ≤ 32) }
-    ensures { Does (repeat_text n step bias) (SeenImage image & Map map & Pad pad & Vram vram & Journal journal & Ring ring) m result }
+#[tactic(auto, using(machine::proofs::Laws::steps), unfolding(rules::specs::Format::repeat_text))]
+pub fn repeat_text(m: &mut Machine<'_>, n: u16, step: u16, bias: u8) -> Result<(), Why>
+    requires { step ≤ 32 }
+    ensures { Does (repeat_text n step bias) m result }
 {
-    let repeated = machine::grom::next_byte(image, map, m);
-    let b = std::num::wrapping_add_u8(repeated.byte, bias);
-    show_times(pad, vram, journal, ring, repeated, n, step, b)
+    let repeated = m.next_byte()?;
+    show_times(m, n, step, repeated.wrapping_add(bias))
 }
 
 // ---- from a CPU operand
 
-fn is_cpu(place: Place) -> bool
-    ensures { result ≡ is_cpu (cell_of place).kind }
-{
-    match place {
-        Place::Cpu(_) => true,
-        Place::Vdp(_) => false,
-    }
-}
-
-fn offset_of(place: Place) -> u16
-    ensures { result ≡ (cell_of place).at }
-{
-    match place {
-        Place::Cpu(a) => a,
-        Place::Vdp(a) => a,
-    }
-}
-
 // The pad offset of an operand; a VDP cell is refused.
-pub fn cpu_operand(
-    image: &[u8],
-    map: &mut [u8],
-    pad: &mut [u8],
-    journal: &mut [u32],
-    ring: &mut [usize],
-    m: Now,
-) -> Now
-    requires { IsPad pad.old }
-    ensures { Gives result.word cpu_operand (SeenImage image & Map map & Pad pad & Journal journal & Ring ring) m result }
+#[tactic(auto, using(machine::proofs::Laws::steps), unfolding(rules::specs::Format::cpu_operand))]
+pub fn cpu_operand(m: &mut Machine<'_>) -> Result<u16, Why>
+    ensures { Does cpu_operand m result }
 {
-    let o = operand::decode::operand(image, map, pad, journal, ring, m, 1);
-    let at = operand::places::now_of(o);
-    let place = operand::places::place_of(o);
-    let a = offset_of(place);
-    let sound = machine::state::need(at, is_cpu(place), Why::OffCpu(a));
-    machine::state::give_word(sound, a)
-}
-
-fn show_cell(
-    pad: &mut [u8],
-    vram: &mut [u8],
-    journal: &mut [u32],
-    ring: &mut [usize],
-    m: Now,
-    a: usize,
-    bias: u8,
-) -> Now
-    requires { IsPad pad.old × IsVram vram.old }
-    ensures { Does (show_cell a bias) (Pad pad & Vram vram & Journal journal & Ring ring) m result }
-{
-    let ch = machine::pad::peek_pad(pad, m, a);
-    let b = std::num::wrapping_add_u8(ch.byte, bias);
-    cursor::show(pad, vram, journal, ring, ch, 1, b)
-}
-
-// n characters from a pad offset on, until one is refused.
-fn pad_text(
-    pad: &mut [u8],
-    vram: &mut [u8],
-    journal: &mut [u32],
-    ring: &mut [usize],
-    m: Now,
-    n: u16,
-    a: usize,
-    bias: u8,
-) -> Now
-    requires { IsPad pad.old × IsVram vram.old × (a < 65536) }
-    ensures { Does (pad_text n a bias) (Pad pad & Vram vram & Journal journal & Ring ring) m result }
-{
-    let mut x = m;
-    let mut left = n;
-    let mut at = a;
-    while 0 < left {
-        x = show_cell(pad, vram, journal, ring, x, at, bias);
-        if x.answer != 0 {
-            return x;
-        }
-        left -= 1;
-        at += 1;
+    match decode::operand(m, 1)? {
+        Place::Cpu(a) => Ok(a),
+        Place::Vdp(a) => Err(Why::OffCpu(a)),
     }
-    x
 }
 
-pub fn operand_text(
-    image: &[u8],
-    map: &mut [u8],
-    pad: &mut [u8],
-    vram: &mut [u8],
-    journal: &mut [u32],
-    ring: &mut [usize],
-    m: Now,
-    n: u16,
-    bias: u8,
-) -> Now
-    requires { IsPad pad.old × IsVram vram.old }
-    ensures { Does (operand_text n bias) (SeenImage image & Map map & Pad pad & Vram vram & Journal journal & Ring ring) m result }
+#[tactic(auto, using(machine::proofs::Laws::steps), unfolding(rules::specs::Format::show_cell))]
+fn show_cell(m: &mut Machine<'_>, a: usize, bias: u8) -> Result<(), Why>
+    ensures { Does (show_cell a bias) m result }
 {
-    let a = cpu_operand(image, map, pad, journal, ring, m);
-    let at = a.word as usize;
-    pad_text(pad, vram, journal, ring, a, n, at, bias)
+    let ch = m.load(Memory::Cpu, a)?;
+    cursor::show(m, 1, ch.wrapping_add(bias))
+}
+
+// n characters from a pad offset on.
+#[tactic(auto, using(machine::proofs::Laws::looping), unfolding(rules::specs::Format::pad_text))]
+fn pad_text(m: &mut Machine<'_>, n: u16, a: usize, bias: u8) -> Result<(), Why>
+    requires { a < 65536 }
+    ensures { Does (pad_text n a bias) m result }
+{
+    for k in 0..n as usize {
+        show_cell(m, a + k, bias)?;
+    }
+    Ok(())
+}
+
+#[tactic(auto, using(machine::proofs::Laws::steps), unfolding(rules::specs::Format::operand_text))]
+pub fn operand_text(m: &mut Machine<'_>, n: u16, bias: u8) -> Result<(), Why>
+    ensures { Does (operand_text n bias) m result }
+{
+    let a = cpu_operand(m)?;
+    pad_text(m, n, a as usize, bias)
 }

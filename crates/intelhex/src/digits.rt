@@ -21,7 +21,7 @@ pub fn value(c: u8) -> Option<u8>
     digit(capital(c))
 }
 
-// Whether all are digits.
+// Whether all are digits: of either case, so not as `lines` has it.
 pub fn all_digits(s: &[u8]) -> bool
     ensures { result ≡ Records.all_digits s.now }
 {

@@ -17,7 +17,7 @@ pub fn idle(flags: &[u8]) -> bool
     flags.iter().all(|f| *f == 0)
 }
 
-// The addresses of a record named, where they lie in the image and none was named before.
+// The addresses of a record named, from one on so many as it has bytes, where they lie in the image and none was named before.
 pub fn mark(flags: &mut [u8], at: usize, count: usize) -> Result<(), Clash>
     requires { (at < 65536) × (count < 256) }
     ensures { Marks flags.old at count (mark_of result) flags.new }

@@ -66,7 +66,7 @@ fn put_counts(out: &mut [u8], at: usize, answer: u8, steps: u32, stores: u64) ->
     put_decimal(out, e, stores)
 }
 
-// And the address that was turned down.
+// And the address that was turned down. The four numbers are those of the line, in its order.
 pub fn put_answer(
     out: &mut [u8],
     at: usize,

@@ -1,3 +1,3 @@
 pub mod Acts
-pub mod Chain
+pub mod Laws
 pub mod Words

@@ -1,22 +1,12 @@
 -- Journal words in the code's words: what one says by its kind, the top ones put back, and the search for the newest mark.
-use mathlib.Core.Path.{◌≡◌, refl, ◌∙◌, ap, ap₂, sym, subst}
-use mathlib.Core.Bool.{Bool, true, false}
-use mathlib.Core.List.{List, [], ◌∷◌}
-use Prim.Native.Nat.{ℕ, zero, suc, ◌+◌, ◌-◌, ◌/◌, ◌%◌, ◌^◌, ◌≤◌, ◌<◌}
+use Rattle.std.proofs.Common.{◌≡◌, refl, ◌∙◌, ap, ap₂, sym, subst, Bool, true, false, List, ℕ, zero, suc, ◌+◌, ◌-◌, ◌/◌, ◌%◌, ◌^◌, ◌≤◌, ◌<◌, add-one, arith, ltb, leb, get_or, set, lt-ltb, le-ltb, ltb-true, leb-true, leb-false}
 use native.Mathlib.Nat.{sub_self}
-use native.Mathlib.Numerals.{add-one}
-use native.Mathlib.Omega.{arith}
-use lib.Dec.{ltb, leb}
-use lib.ListN.{length, get_or, set}
-use borrow.Author.Tests.{ne_eqb, lt-ltb, le-ltb, ltb-true, leb-true, leb-false}
-use Rattle.rules.specs.Machine.{◌also◌, flagged, Kind, Area, extent, writable, Mem, put, beside}
-use Rattle.rules.specs.Journal.{kind_number, mark_word, lay, Note, mark, stood_in, note_of, note, sound, restore, zero_top, undo_top, undo}
-use Rattle.rules.specs.Answers.{Answer, saying, answer_for, no_room}
-use Rattle.rules.specs.Rules.{then, room, spare}
-use Rattle.rules.specs.Calls.{take_mark, Find, found, lost, further, passed, seen, scan}
+use Rattle.rules.specs.Machine.{◌also◌, flagged, Kind, Area, Mem, beside}
+use Rattle.rules.specs.Journal.{kind_number, Note, stood, mark, nothing, stood_in, note_of, note, sound, restore, zero_top, undo_top, undo}
+use Rattle.rules.specs.Calls.{Find, found, lost, further, passed, seen, scan}
 use Rattle.rules.proofs.Undo.{note_of_kind, restore_beside}
-use Rattle.rules.proofs.Tests.{false_true}
-use Rattle.machine.specs.Meaning.{outs, found_at}
+use Rattle.machine.specs.Meaning.{kind_of}
+use Rattle.machine.specs.declared.memory.Memory.{Memory}
 
 -- ---- two tests
 
@@ -25,7 +15,7 @@ unfolding ◌also◌
 both_tests true = refl
 both_tests false = refl
 
-pub first_fails : (a n : ℕ) (b : Bool) → n ≤ a → false ≡ (ltb a n also b)
+pub first_fails : (a n : ℕ) (b : Bool) → n ≤ a → ltb a n ≡ (ltb a n also b)
 unfolding ◌also◌
 first_fails a n b h = rw (le-ltb a n h)
 
@@ -33,75 +23,32 @@ pub second_tells : (a n : ℕ) (b : Bool) → a < n → b ≡ (ltb a n also b)
 unfolding ◌also◌
 second_tells a n b h = rw (lt-ltb a n h)
 
--- ---- a mark taken
-
-pub mark_still : (pc : ℕ) (a : Answer) (pc₁ : ℕ) (m : Mem) → (a.number ≡ 0 → ⊥) → outs a pc₁ m ≡ then (outs a pc₁ m) (λ _ pc₂ m₂. take_mark pc pc₂ m₂)
-unfolding outs
-mark_still pc a pc₁ m h = rw (ne_eqb a.number 0 h)
-
-module _ (pc pc₁ d : ℕ) (m : Mem) {m₁ : Mem} {z : ℕ} (h : z ≡ 0) where
-  pub mark_full : (room (spare m) ≡ false) × (m₁ ≡ spare m) → outs (answer_for no_room) pc₁ m₁ ≡ then (outs (saying z d) pc₁ m) (λ _ pc₂ m₂. take_mark pc pc₂ m₂)
-  unfolding outs take_mark
-  mark_full s = rw (h, s.0, s.1)
-
-  pub mark_taken : (w : ℕ) → w ≡ mark_word pc → (room (spare m) ≡ true) × (m₁ ≡ lay w (spare m))
-      → outs (saying z d) pc₁ m₁ ≡ then (outs (saying z d) pc₁ m) (λ _ pc₂ m₂. take_mark pc pc₂ m₂)
-  unfolding outs take_mark
-  mark_taken w e s = rw (h, s.0, ← e, s.1)
-
 -- ---- what a word says, by its kind
 
 note_by_kind : (k : Kind) (w n : ℕ) → n ≡ w / 2 ^ 29 → n ≡ kind_number k → note w ≡ stood_in k (w % 2 ^ 29)
 unfolding note
 note_by_kind k w n e f = ap (λ (x : ℕ). note_of x (w % 2 ^ 29)) (sym e ∙ f) ∙ note_of_kind k (w % 2 ^ 29)
 
-note_of_mark : (w n : ℕ) → n ≡ w / 2 ^ 29 → n ≡ 3 → note w ≡ mark (w % 2 ^ 29)
+pub note_of_mark : (w n : ℕ) → n ≡ w / 2 ^ 29 → n ≡ 3 → note w ≡ mark (w % 2 ^ 29)
 unfolding note
 note_of_mark w n e f = ap (λ (x : ℕ). note_of x (w % 2 ^ 29)) (sym e ∙ f)
 
--- whether it is sound
-pub sound_kind : (z : Area) (k : Kind) (w n at : ℕ) → n ≡ w / 2 ^ 29 → n ≡ kind_number k → at ≡ w % 2 ^ 29 / 256
-    → (ltb at (extent z k) also writable z k at) ≡ sound z (note w)
-sound_kind z k w n at e f h = rw (h, note_by_kind k w n e f)
-
-pub sound_mark : (z : Area) (w n low : ℕ) → n ≡ w / 2 ^ 29 → n ≡ 3 → low ≡ w % 2 ^ 29 → ltb low 131072 ≡ sound z (note w)
-sound_mark z w n low e f h = rw (h, note_of_mark w n e f)
+pub note_stood : (k : Memory) (w n : ℕ) {at b : ℕ} → n ≡ w / 2 ^ 29 → n ≡ kind_number (kind_of k) → at ≡ w % 2 ^ 29 / 256 → b ≡ w % 2 ^ 29 % 256
+    → stood (kind_of k) at b ≡ note w
+note_stood k w n e f h l = rw (h, l, note_by_kind (kind_of k) w n e f)
 
 -- of no kind
-sound_rest : (z : Area) (n low : ℕ) → (n ≡ 0 → ⊥) → (n ≡ 1 → ⊥) → (n ≡ 2 → ⊥) → (n ≡ 3 → ⊥) → (n ≡ 4 → ⊥) → false ≡ sound z (note_of n low)
-sound_rest z zero low a b c d e = absurd (a refl)
-sound_rest z (suc zero) low a b c d e = absurd (b refl)
-sound_rest z (suc (suc zero)) low a b c d e = absurd (c refl)
-sound_rest z (suc (suc (suc zero))) low a b c d e = absurd (d refl)
-sound_rest z (suc (suc (suc (suc zero)))) low a b c d e = absurd (e refl)
-sound_rest z (suc (suc (suc (suc (suc n))))) low a b c d e = refl
+note_rest : (n low : ℕ) → (n ≡ 0 → ⊥) → (n ≡ 1 → ⊥) → (n ≡ 2 → ⊥) → (n ≡ 3 → ⊥) → (n ≡ 4 → ⊥) → nothing ≡ note_of n low
+note_rest zero low a b c d e = absurd (a refl)
+note_rest (suc zero) low a b c d e = absurd (b refl)
+note_rest (suc (suc zero)) low a b c d e = absurd (c refl)
+note_rest (suc (suc (suc zero))) low a b c d e = absurd (d refl)
+note_rest (suc (suc (suc (suc zero)))) low a b c d e = absurd (e refl)
+note_rest (suc (suc (suc (suc (suc n))))) low a b c d e = refl
 
-pub sound_none : (z : Area) (w n : ℕ) → n ≡ w / 2 ^ 29 → (n ≡ 0 → ⊥) → (n ≡ 1 → ⊥) → (n ≡ 2 → ⊥) → (n ≡ 3 → ⊥) → (n ≡ 4 → ⊥) → false ≡ sound z (note w)
+pub note_nothing : (w n : ℕ) → n ≡ w / 2 ^ 29 → (n ≡ 0 → ⊥) → (n ≡ 1 → ⊥) → (n ≡ 2 → ⊥) → (n ≡ 3 → ⊥) → (n ≡ 4 → ⊥) → nothing ≡ note w
 unfolding note
-sound_none z w n k a b c d e = rw (← k) (sound_rest z n (w % 2 ^ 29) a b c d e)
-
--- what it puts back: a byte into one memory, or nothing
-pub restore_kind : (k : Kind) (w n at b : ℕ) (m : Mem) → n ≡ w / 2 ^ 29 → n ≡ kind_number k → at ≡ w % 2 ^ 29 / 256 → b ≡ w % 2 ^ 29 % 256
-    → put k at b m ≡ restore (note w) m
-restore_kind k w n at b m e f h l = rw (h, l, note_by_kind k w n e f)
-
-restore_rest : (n low : ℕ) (m : Mem) → (n ≡ 0 → ⊥) → (n ≡ 1 → ⊥) → (n ≡ 2 → ⊥) → (n ≡ 4 → ⊥) → m ≡ restore (note_of n low) m
-restore_rest zero low m x y z t = absurd (x refl)
-restore_rest (suc zero) low m x y z t = absurd (y refl)
-restore_rest (suc (suc zero)) low m x y z t = absurd (z refl)
-restore_rest (suc (suc (suc zero))) low m x y z t = refl
-restore_rest (suc (suc (suc (suc zero)))) low m x y z t = absurd (t refl)
-restore_rest (suc (suc (suc (suc (suc n))))) low m x y z t = refl
-
-pub restore_none : (w n : ℕ) (m : Mem) → n ≡ w / 2 ^ 29 → (n ≡ 0 → ⊥) → (n ≡ 1 → ⊥) → (n ≡ 2 → ⊥) → (n ≡ 4 → ⊥) → m ≡ restore (note w) m
-unfolding note
-restore_none w n m e x y z t = rw (← e) (restore_rest n (w % 2 ^ 29) m x y z t)
-
--- a byte beyond the end is put nowhere
-pub set_beyond : (l : List ℕ) (a b : ℕ) → length l ≤ a → l ≡ set l a b
-set_beyond [] a b h = refl
-set_beyond (x ∷ l) zero b h = absurd (omega arith)
-set_beyond (x ∷ l) (suc a) b h = ap (λ (r : List ℕ). x ∷ r) (set_beyond l a b (omega arith))
+note_nothing w n k a b c d e = rw (← k) (note_rest n (w % 2 ^ 29) a b c d e)
 
 -- ---- the top word, and the top n
 
@@ -154,9 +101,9 @@ higher_further d lost = refl
 pub scan_start : (z : Area) (u : ℕ) (j : List ℕ) → scan z u j ≡ higher (u - u) (scan z u j)
 scan_start z u j = rw (sub_self u) (higher_none (scan z u j))
 
-scan_turn : (z : Area) (u : ℕ) (j : List ℕ) → (u ≡ 0 → ⊥) → scan z u j ≡ seen z (note (get_or j (u - 1) 0)) (scan z (u - 1) j)
+scan_turn : (z : Area) (u : ℕ) (j : List ℕ) → 0 < u → scan z u j ≡ seen z (note (get_or j (u - 1) 0)) (scan z (u - 1) j)
 unfolding scan
-scan_turn z zero j h = absurd (h refl)
+scan_turn z zero j h = absurd (omega arith)
 scan_turn z (suc u) j h =
     let s : suc u - 1 ≡ u = omega arith in
     rw s
@@ -168,50 +115,38 @@ seen_bad z x f h = rw h
 seen_sound : (z : Area) (x : Note) (f : Find) → sound z x ≡ true → seen z x f ≡ passed x f
 seen_sound z x f h = rw h
 
-passed_cell : (z : Area) (n low : ℕ) (f : Find) → (n ≡ 3 → ⊥) → sound z (note_of n low) ≡ true → passed (note_of n low) f ≡ further f
-passed_cell z zero low f x h = refl
-passed_cell z (suc zero) low f x h = refl
-passed_cell z (suc (suc zero)) low f x h = refl
-passed_cell z (suc (suc (suc zero))) low f x h = absurd (x refl)
-passed_cell z (suc (suc (suc (suc zero)))) low f x h = refl
-passed_cell z (suc (suc (suc (suc (suc n))))) low f x h = absurd (false_true h)
-
 -- a mark's address is that of its low sixteen bits and of the flag above them
-address_of : (w pc : ℕ) → w % 2 ^ 29 < 131072 → pc ≡ w % 65536 → (v : Bool) → v ≡ leb 65536 (w % 2 ^ 29) → w % 2 ^ 29 ≡ flagged pc v
-address_of w pc h p true r = omega (arith, leb-true 65536 (w % 2 ^ 29) (sym r))
-address_of w pc h p false r = omega (arith, leb-false 65536 (w % 2 ^ 29) (sym r))
+address_of : (q : ℕ) → q < 131072 → (v : Bool) → v ≡ leb 65536 q → q ≡ flagged (q % 65536) v
+address_of q h true r = omega (arith, leb-true 65536 q (sym r))
+address_of q h false r = omega (arith, leb-false 65536 q (sym r))
 
 -- the search stands at u, with `all` words to search, at whose top is the word w: a turn that goes on, and the three that end it
 module _ (z : Area) (all u : ℕ) (j : List ℕ) (f : Find) (e : f ≡ higher (all - u) (scan z u j)) where
-  turned : (w : ℕ) → (u ≡ 0 → ⊥) → w ≡ get_or j (u - 1) 0 → f ≡ higher (all - u) (seen z (note w) (scan z (u - 1) j))
+  turned : (w : ℕ) → 0 < u → w ≡ get_or j (u - 1) 0 → f ≡ higher (all - u) (seen z (note w) (scan z (u - 1) j))
   turned w h q = e ∙ ap (higher (all - u)) (scan_turn z u j h ∙ ap (λ (x : ℕ). seen z (note x) (scan z (u - 1) j)) (sym q))
 
-  pub scan_on : (w n : ℕ) → (u ≡ 0 → ⊥) → u ≤ all → w ≡ get_or j (u - 1) 0 → sound z (note w) ≡ true → n ≡ w / 2 ^ 29 → (n ≡ 3 → ⊥)
+  pub scan_on : {w a b : ℕ} {k : Kind} → 0 < u → u ≤ all → w ≡ get_or j (u - 1) 0 → sound z (note w) ≡ true → stood k a b ≡ note w
       → f ≡ higher (all - (u - 1)) (scan z (u - 1) j)
-  unfolding note
-  scan_on w n h l q s k x =
+  scan_on {w} h l q s k =
       let more : all - u + 1 ≡ all - (u - 1) = omega arith in
       let below : Find = scan z (u - 1) j in
       turned w h q
-      ∙ ap (higher (all - u)) (seen_sound z (note w) below s ∙ passed_cell z (w / 2 ^ 29) (w % 2 ^ 29) below (λ y. x (k ∙ y)) s)
+      ∙ ap (higher (all - u)) (seen_sound z (note w) below s ∙ ap (λ (x : Note). passed x below) (sym k))
       ∙ higher_further (all - u) below ∙ ap (λ (d : ℕ). higher d below) more
 
-  pub scan_mark : (w n d pc : ℕ) (v : Bool) → (u ≡ 0 → ⊥) → u ≤ all → w ≡ get_or j (u - 1) 0 → sound z (note w) ≡ true → n ≡ w / 2 ^ 29 → n ≡ 3 → d ≡ all - (u - 1)
-      → pc ≡ w % 65536 → v ≡ leb 65536 (w % 2 ^ 29) → found_at d (flagged pc v) ≡ f
-  unfolding higher found_at
-  scan_mark w n d pc v h l q s k x y p r =
-      let ne : d ≡ 0 → ⊥ = λ v. omega arith in
-      let more : all - u + 1 ≡ d = omega arith in
-      let small : w % 2 ^ 29 < 131072 = ltb-true (w % 2 ^ 29) 131072 (sound_mark z w n (w % 2 ^ 29) k x refl ∙ s) in
-      let low : w % 2 ^ 29 ≡ flagged pc v = address_of w pc small p v r in
+  pub scan_mark : {w q : ℕ} → 0 < u → u ≤ all → w ≡ get_or j (u - 1) 0 → sound z (note w) ≡ true → mark q ≡ note w
+      → found (all - (u - 1)) (flagged (q % 65536) (leb 65536 q)) ≡ f
+  unfolding higher
+  scan_mark {w} {q} h l r s k =
+      let more : all - u + 1 ≡ all - (u - 1) = omega arith in
+      let small : q < 131072 = ltb-true q 131072 (ap (sound z) k ∙ s) in
       let below : Find = scan z (u - 1) j in
-      rw (ne_eqb d 0 ne)
-      (sym (turned w h q ∙ ap (higher (all - u)) (seen_sound z (note w) below s ∙ ap (λ (v : Note). passed v below) (note_of_mark w n k x)) ∙ ap₂ found more low))
+      sym (turned w h r ∙ ap (higher (all - u)) (seen_sound z (note w) below s ∙ ap (λ (x : Note). passed x below) (sym k)) ∙ ap₂ found more (address_of q small _ refl))
 
-  pub scan_bad : (w : ℕ) → (u ≡ 0 → ⊥) → w ≡ get_or j (u - 1) 0 → sound z (note w) ≡ false → found_at 0 0 ≡ f
-  unfolding higher found_at
+  pub scan_bad : (w : ℕ) → 0 < u → w ≡ get_or j (u - 1) 0 → sound z (note w) ≡ false → lost ≡ f
+  unfolding higher
   scan_bad w h q s = sym (turned w h q ∙ ap (higher (all - u)) (seen_bad z (note w) (scan z (u - 1) j) s))
 
-  pub scan_end : u ≡ 0 → found_at 0 0 ≡ f
-  unfolding higher found_at scan
+  pub scan_end : u ≡ 0 → lost ≡ f
+  unfolding higher scan
   scan_end h = sym (e ∙ ap (λ (n : ℕ). higher (all - u) (scan z n j)) h)

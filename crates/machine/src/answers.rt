@@ -1,6 +1,6 @@
 // The refusals, once, in 01's order and words, 4, 5 and 6 with the address that was turned down; and their numbers. 0 is "done".
 // 02, of 9: "don't use the number again".
-ghost use Rattle.std.specs.Prelude.{◌≡◌};
+ghost use Rattle.std.specs.Prelude.{◌≡◌, true, Ok, Err, cond, IfOk};
 ghost use Rattle.rules.specs.Answers;
 ghost use Rattle.machine.specs.Meaning.{why_of};
 
@@ -38,47 +38,44 @@ pub enum Why {
     OutputFull,
 }
 
-pub fn number(why: Why) -> u8
-    ensures { result ≡ Answers.number (why_of why) }
-{
-    match why {
-        Why::Ended => 1,
-        Why::NoSuch => 2,
-        Why::NeedsHost => 3,
-        Why::OffCpu(_) => 4,
-        Why::OffVdp(_) => 5,
-        Why::OffGrom(_) => 6,
-        Why::OffStack => 7,
-        Why::TooLong => 8,
-        Why::NoRoom => 10,
-        Why::WrongLength => 11,
-        Why::NoRecord => 12,
-        Why::OffRegister => 13,
-        Why::TooCoarse => 23,
-        Why::ReadOnly => 24,
-        Why::OutputFull => 26,
+impl Why {
+    pub fn number(self) -> u8
+        ensures { result ≡ Answers.number (why_of self) }
+    {
+        match self {
+            Why::Ended => 1,
+            Why::NoSuch => 2,
+            Why::NeedsHost => 3,
+            Why::OffCpu(_) => 4,
+            Why::OffVdp(_) => 5,
+            Why::OffGrom(_) => 6,
+            Why::OffStack => 7,
+            Why::TooLong => 8,
+            Why::NoRoom => 10,
+            Why::WrongLength => 11,
+            Why::NoRecord => 12,
+            Why::OffRegister => 13,
+            Why::TooCoarse => 23,
+            Why::ReadOnly => 24,
+            Why::OutputFull => 26,
+        }
+    }
+
+    // The address that was turned down, or 0.
+    pub fn address(self) -> u16
+        ensures { result ≡ Answers.address (why_of self) }
+    {
+        match self {
+            Why::OffCpu(a) | Why::OffVdp(a) | Why::OffGrom(a) => a,
+            _ => 0,
+        }
     }
 }
 
-// The address that was turned down, or 0.
-pub fn address(why: Why) -> u16
-    ensures { result ≡ Answers.address (why_of why) }
+// A refusal, unless a test holds.
+pub fn need(holds: bool, why: Why) -> Result<(), Why>
+    ensures is { result ≡ cond holds (Ok tt) (Err why) }
+    ensures met { IfOk result (λ _. holds ≡ true) }
 {
-    match why {
-        Why::Ended => 0,
-        Why::NoSuch => 0,
-        Why::NeedsHost => 0,
-        Why::OffCpu(a) => a,
-        Why::OffVdp(a) => a,
-        Why::OffGrom(a) => a,
-        Why::OffStack => 0,
-        Why::TooLong => 0,
-        Why::NoRoom => 0,
-        Why::WrongLength => 0,
-        Why::NoRecord => 0,
-        Why::OffRegister => 0,
-        Why::TooCoarse => 0,
-        Why::ReadOnly => 0,
-        Why::OutputFull => 0,
-    }
+    if holds { Ok(()) } else { Err(why) }
 }

@@ -1,5 +1,5 @@
-// The machine: a small state that goes through everything by value, and each memory as a slice lent by itself.
-// A machine that has refused stays as it is: once the answer is not 0, every function here leaves everything alone.
+// The machine that a step is made on: the lent memories, the journal, and the few numbers beside them; and what every instruction does to it.
+// A function that refuses says why; what it had stored stands in the journal, to be put back.
 #![tactic(auto)]
 
 pub mod answers;
@@ -7,7 +7,5 @@ pub mod cells;
 pub mod grom;
 pub mod journal;
 pub mod memory;
-pub mod pad;
-pub mod registers;
+pub mod notes;
 pub mod state;
-pub mod vdp;

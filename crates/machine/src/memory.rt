@@ -1,120 +1,172 @@
 // A load and a journalled store, of whichever memory: the pad, VDP RAM, the registers or the image.
-ghost use Rattle.std.specs.Prelude.{◌≡◌};
+ghost use Rattle.std.specs.Prelude.{◌≡◌, ◌+◌, ◌<◌, ◌^◌};
 ghost use Rattle.rules.specs.Answers;
 ghost use Rattle.rules.specs.Answers.{answer_for};
 ghost use Rattle.rules.specs.Journal.{kind_number};
-ghost use Rattle.machine.specs.Meaning.{why_of, kind_of, reach_of, may_store, IsNear, IsOf, IsRam, Loads, Stores};
+ghost use Rattle.rules.specs.Rules.{peek, peek_word, poke};
+ghost use Rattle.rules.specs.Operands.{poke_word};
+ghost use Rattle.machine.specs.Meaning.{why_of, kind_of, extent_of, may_store, byte_in, IsNear, Does, MarksIn, PutsIn, LaysIn};
 
 use crate::answers::Why;
-use crate::state::Now;
-use crate::{cells, grom, state};
+use crate::state::Machine;
+use crate::{cells, grom, journal};
+use number::words;
 use ring::book;
 
-#[derive(Clone, Copy)]
+#[derive(Clone, Copy, PartialEq, Eq)]
 pub enum Memory {
     Cpu,
     Vdp,
     Register,
-    // with its writable groups
-    Grom(u8),
+    Grom,
 }
 
-// How many of its n cells a program may reach.
-fn reach(k: Memory, n: usize) -> usize
-    ensures { result ≡ reach_of k n }
-{
-    match k {
-        Memory::Cpu => cells::PAD_REACH,
-        Memory::Vdp => cells::VDP_REACH,
-        Memory::Register => cells::REGISTERS,
-        Memory::Grom(_) => n,
+impl Memory {
+    // Its number in the journal's words: 3 is a mark's.
+    pub fn number(self) -> u32
+        ensures { result ≡ kind_number (kind_of self) }
+    {
+        match self {
+            Memory::Cpu => 0,
+            Memory::Vdp => 1,
+            Memory::Register => 2,
+            Memory::Grom => 4,
+        }
     }
-}
 
-// Whether it may store into one of them.
-fn may_store(k: Memory, at: usize) -> bool
-    ensures { result ≡ may_store k at }
-{
-    match k {
-        Memory::Cpu => true,
-        Memory::Vdp => true,
-        Memory::Register => true,
-        Memory::Grom(w) => grom::writable(w, at),
-    }
-}
-
-// The refusal of an address that names none.
-fn outside(k: Memory, at: usize) -> Why
-    ensures { answer_for (why_of result) ≡ answer_for (Answers.outside (kind_of k) at) }
-{
-    let a = (at % 65536) as u16;
-    match k {
-        Memory::Cpu => Why::OffCpu(a),
-        Memory::Vdp => Why::OffVdp(a),
-        Memory::Register => Why::OffRegister,
-        Memory::Grom(_) => Why::OffGrom(a),
+    // The refusal of an address that names none of its cells.
+    fn outside(self, at: usize) -> Why
+        ensures { answer_for (why_of result) ≡ answer_for (Answers.outside (kind_of self) at) }
+    {
+        let a = (at % 65536) as u16;
+        match self {
+            Memory::Cpu => Why::OffCpu(a),
+            Memory::Vdp => Why::OffVdp(a),
+            Memory::Register => Why::OffRegister,
+            Memory::Grom => Why::OffGrom(a),
+        }
     }
 }
 
-// Its kind in the journal's words.
-fn kind(k: Memory) -> u32
-    ensures { result ≡ kind_number (kind_of k) }
-{
-    match k {
-        Memory::Cpu => 0,
-        Memory::Vdp => 1,
-        Memory::Register => 2,
-        Memory::Grom(_) => 4,
+impl Machine<'_> {
+    // How many of its cells a program may reach.
+    fn reach(&self, k: Memory) -> usize
+        ensures { result ≡ extent_of k self.now }
+    {
+        match k {
+            Memory::Cpu => cells::PAD_REACH,
+            Memory::Vdp => cells::VDP_REACH,
+            Memory::Register => cells::REGISTERS,
+            Memory::Grom => self.image.len(),
+        }
     }
-}
 
-// Of the image the reads are marked, which is not done here.
-pub fn load(memory: &[u8], m: Now, k: Memory, at: usize) -> Now
-    requires { IsOf k memory.now × IsRam k }
-    ensures { Loads k at memory m result }
-{
-    if m.answer != 0 {
-        return m;
+    // Whether it may store into one of them.
+    fn may_store(&self, k: Memory, at: usize) -> bool
+        ensures { result ≡ may_store k at self.now }
+    {
+        match k {
+            Memory::Cpu | Memory::Vdp | Memory::Register => true,
+            Memory::Grom => grom::writable(self.groups, at),
+        }
     }
-    if reach(k, memory.len()) <= at {
-        return state::refused(m, outside(k, at));
-    }
-    state::read(m, m.pc, memory[at])
-}
 
-// The range is tested before the group, and both before the room.
-pub fn store(
-    memory: &mut [u8],
-    journal: &mut [u32],
-    ring: &mut [usize],
-    m: Now,
-    k: Memory,
-    at: usize,
-    b: u8,
-) -> Now
-    requires { IsOf k memory.old × IsNear k at }
-    ensures { Stores k at b memory journal ring m result }
-{
-    let used = m.used;
-    let limit = reach(k, memory.len());
-    let why = outside(k, at);
-    let allowed = may_store(k, at);
-    if m.answer != 0 {
-        return m;
+    fn byte(&self, k: Memory, at: usize) -> u8
+        requires { at < extent_of k self.now }
+        ensures { result ≡ byte_in k at self.now }
+    {
+        let cells: &[u8] = match k {
+            Memory::Cpu => &self.pad[..],
+            Memory::Vdp => &self.vram[..],
+            Memory::Register => &self.regs[..],
+            Memory::Grom => self.image,
+        };
+        cells[at]
     }
-    if limit <= at {
-        return state::refused(m, why);
+
+    fn put(&mut self, k: Memory, at: usize, b: u8)
+        requires { at < extent_of k self.old }
+        ensures { PutsIn k at b self }
+    {
+        match k {
+            Memory::Cpu => self.pad[at] = b,
+            Memory::Vdp => self.vram[at] = b,
+            Memory::Register => self.regs[at] = b,
+            Memory::Grom => self.image[at] = b,
+        }
     }
-    if !allowed {
-        return state::refused(m, Why::ReadOnly);
+
+    // A byte of the image is marked where it is read.
+    fn mark(&mut self, k: Memory, at: usize)
+        ensures { MarksIn k at self }
+    {
+        match k {
+            Memory::Cpu | Memory::Vdp | Memory::Register => {}
+            Memory::Grom => journal::put(self.map, at, 1),
+        }
     }
-    if journal.len() <= used {
-        return state::refused(m, Why::NoRoom);
+
+    // A word onto the journal.
+    #[inline]
+    pub(crate) fn lay(&mut self, w: u32) -> Result<(), Why>
+        ensures { LaysIn w self result }
+    {
+        if self.journal.len() <= self.used {
+            return Err(Why::NoRoom);
+        }
+        book::lay(self.journal, self.first, self.used, w);
+        self.used += 1;
+        Ok(())
     }
-    let old = memory[at];
-    let a = at as u32;
-    book::lay(journal, ring, used, number::words::pack(kind(k), a, old));
-    memory[at] = b;
-    let more = used + 1;
-    state::keeping(m, more)
+
+    #[inline]
+    pub fn load(&mut self, k: Memory, at: usize) -> Result<u8, Why>
+        ensures { Does (peek (kind_of k) at) self result }
+    {
+        if at < self.reach(k) {
+            let b = self.byte(k, at);
+            self.mark(k, at);
+            return Ok(b);
+        }
+        Err(k.outside(at))
+    }
+
+    // High byte first.
+    #[tactic(auto, using(crate::proofs::Laws::steps), unfolding(rules::specs::Rules::peek_word))]
+    pub fn load_word(&mut self, k: Memory, at: usize) -> Result<u16, Why>
+        requires { at < 2 ^ 32 }
+        ensures { Does (peek_word (kind_of k) at) self result }
+    {
+        let high = self.load(k, at)?;
+        let low = self.load(k, at + 1)?;
+        Ok(words::word_of(high, low))
+    }
+
+    // The range is tested before the group, and both before the room.
+    #[inline]
+    pub fn store(&mut self, k: Memory, at: usize, b: u8) -> Result<(), Why>
+        requires { IsNear k at }
+        ensures { Does (poke (kind_of k) at b) self result }
+    {
+        if self.reach(k) <= at {
+            return Err(k.outside(at));
+        }
+        if !self.may_store(k, at) {
+            return Err(Why::ReadOnly);
+        }
+        let old = self.byte(k, at);
+        self.lay(words::pack(k.number(), at as u32, old))?;
+        self.put(k, at, b);
+        Ok(())
+    }
+
+    // High byte first, each byte a store of its own.
+    #[tactic(auto, using(crate::proofs::Laws::steps), unfolding(rules::specs::Operands::poke_word))]
+    pub fn store_word(&mut self, k: Memory, at: usize, w: u16) -> Result<(), Why>
+        requires { IsNear k (at + 1) × (at < 2 ^ 32) }
+        ensures { Does (poke_word (kind_of k) at w) self result }
+    {
+        self.store(k, at, words::high_of(w))?;
+        self.store(k, at + 1, words::low_of(w))
+    }
 }

@@ -1,21 +1,12 @@
 -- Laws of the numbers, each once: over the width, over a divisor, or over the places of a shift.
 -- Assumes nothing.
-use Rattle.std.proofs.Common.{◌≡◌, ℕ, ◌+◌, ◌-◌, ◌*◌, ◌/◌, ◌%◌, ◌^◌, ◌<◌, ◌≤◌, Bool, true, false, not, eqb, ltb, refl, ◌∙◌, subst, lt_of_lt_of_le, le_of_lt, mul-le-mul_right, mod-lt, div-lt_iff_lt-mul, mul-le-mul, arith, pow_pos, pow-add, shr_lt}
-use native.Mathlib.Nat.{mul-lt-mul_of_pos_left, mul-mod_left}
-use lib.Pow.{shl-shr, mod-pow-add, mod-mod-pow}
+use Rattle.std.proofs.Common.{◌≡◌, ℕ, ◌+◌, ◌-◌, ◌*◌, ◌/◌, ◌%◌, ◌^◌, ◌<◌, ◌≤◌, Bool, true, false, not, eqb, ltb, refl, ◌∙◌, subst, mul-le-mul_right, mod-lt, arith, pow_pos, pow-add, shr_lt}
+use Rattle.std.proofs.Math.Nat.{mul-mod_left}
+use Rattle.std.proofs.Math.Pow.{shl-shr, mod-pow-add, mod-mod-pow}
 use Rattle.rules.specs.Arithmetic.{half, span, above, flag, status_byte, compared}
 use Rattle.rules.specs.Machine.{pick}
 
 -- ---- over the width
-
--- half of a width's numbers is from 1 to 32,768
-pub half_from : (w : Bool) → 1 ≤ half w
-half_from true = omega arith
-half_from false = omega arith
-
-pub half_to : (w : Bool) → half w ≤ 0x8000
-half_to true = omega arith
-half_to false = omega arith
 
 -- a number of the narrow width is a byte
 pub byte_of : {w : Bool} {x : ℕ} → w ≡ false → x < span (half w) → x < 256
@@ -40,38 +31,6 @@ status_to hi gt cond cy ov = omega (arith, flag_to hi 0x80, flag_to gt 0x40, fla
 pub compared_to : (h a b : ℕ) (cy ov : Bool) → compared h a b cy ov ≤ 0xF8
 unfolding compared
 compared_to h a b cy ov = status_to (ltb b a) (above h a b) (eqb a b) cy ov
-
--- ---- over a divisor
-
--- a rest is below any number that the divisor does not exceed
-pub rest_below : (x : ℕ) {n m : ℕ} → 1 ≤ n → n ≤ m → x % n < m
-rest_below x {n} h l = omega (arith, mod-lt x {m = n} (omega arith))
-
--- a word times a number that is at most how many words there are
-pub product_to : {a b : ℕ} → a < 65536 → b ≤ 65536 → a * b ≤ 4294901760
-product_to {a} h l =
-    let k : a ≤ 65535 = omega arith in
-    mul-le-mul k l
-
--- a word times how many numbers a width has, as the code has it
-pub top_to : (w : Bool) {u h : ℕ} → u < 65536 → h ≡ half w → u * (h * 2) ≤ 4294901760
-top_to w {u} {h} l e =
-    let k : h * 2 ≤ 65536 = omega (arith, half_to w) in
-    product_to l k
-
--- the upper half of a product
-pub upper_below : {a b n m : ℕ} → a < n → b < m → a * b / n < m
-upper_below {a} {b} {n} {m} h l =
-    let pos : 0 < n = omega arith in
-    let below : a * b < m * n = omega (arith, mul-le-mul_right b (le_of_lt h), mul-lt-mul_of_pos_left l pos) in
-    (div-lt_iff_lt-mul pos).1 below
-
--- a quotient, where the dividend's upper half is below the divisor
-pub quotient_below : {u l n b m : ℕ} → u < b → l < n → n ≤ m → (u * n + l) / b < m
-quotient_below {u} {l} {n} {b} {m} h k j =
-    let pos : 0 < b = omega arith in
-    let below : u * n + l < n * b = omega (arith, mul-le-mul_right n h) in
-    lt_of_lt_of_le ((div-lt_iff_lt-mul pos).1 below) j
 
 -- ---- over the places of a shift
 

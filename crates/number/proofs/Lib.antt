@@ -1,3 +1,2 @@
 pub mod Laws
-pub mod Masks
 pub mod Signed

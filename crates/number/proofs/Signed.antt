@@ -1,7 +1,7 @@
 -- Signed words: what 16 bits hold, that COINC's numbers are small enough for them, and which sums lie inside.
-use Rattle.std.proofs.Common.{◌≡◌, ℕ, suc, ◌+◌, ◌-◌, ◌%◌, ◌<◌, ◌≤◌, Bool, true, false, cond, T, ltb, leb, ℤ, pos, negsuc, ◌+ℤ◌, nat_abs, sym, refl, ap, ◌∙◌, ap₂, zero-le, mod-lt, arith, lit<, w8, w16, Fits, SFits, to_z, of_z, ltb-true, lt-ltb, le-leb, leb-false, leb-true}
-use lib.IntN.{sub_ℕ}
-use lib.Signed.{mag, shr_z, lt_z, le_z, non_neg, mag_shr}
+use Rattle.std.proofs.Common.{◌≡◌, ℕ, suc, ◌+◌, ◌-◌, ◌%◌, ◌<◌, ◌≤◌, Bool, true, false, cond, T, ltb, leb, ℤ, pos, negsuc, ◌+ℤ◌, nat_abs, sym, refl, ap, ◌∙◌, ap₂, mod-lt, arith, lit<, w8, w16, Fits, SFits, to_z, of_z, lt-ltb, leb-false, leb-true}
+use Rattle.std.proofs.Math.IntN.{sub_ℕ}
+use lib.Signed.{mag, shr_z, non_neg, mag_shr}
 use mir.ValLaws.{to_z-of_z}
 use Rattle.rules.specs.Machine.{pick, ◌also◌}
 use Rattle.rules.specs.Coincidence.{signed, difference, inside}
@@ -57,16 +57,6 @@ module _ {z : ℤ} {size : ℕ} (n s d : ℕ) (is : z ≡ difference s d) (byte 
   sum_is = held sum_fits ∙ summed ∙ ap (λ (y : ℤ). shr_z y n +ℤ pos size) is
 
 -- ---- inside
-
-pub too_low : (z : ℤ) (n : ℕ) → lt_z z (pos 0) ≡ true → inside z n ≡ false
-unfolding inside ◌also◌
-too_low (pos a) n e = absurd (omega (arith, ltb-true a 0 e))
-too_low (negsuc a) n e = refl
-
-pub not_too_low : (z : ℤ) (n : ℕ) → lt_z z (pos 0) ≡ false → inside z n ≡ le_z z (pos n)
-unfolding inside ◌also◌
-not_too_low (pos a) n e = rw (le-leb 0 a zero-le)
-not_too_low (negsuc a) n e = absurd (false_true (sym e))
 
 -- what the code's test says of the sum itself
 pub told : {z : ℤ} {r t : Bool} (n : ℕ) → SFits w16 z → r ≡ inside (to_z w16 (of_z w16 z)) n → r ≡ t → inside z n ≡ t

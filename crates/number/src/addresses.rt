@@ -22,7 +22,7 @@ pub fn in_group(pc: u16, a: u16) -> u16
 pub fn plus(a: u16, b: u16) -> u16
     ensures { result ≡ (a + b) % 65536 }
 {
-    std::num::wrapping_add_u16(a, b)
+    a.wrapping_add(b)
 }
 
 // Where CASE goes: twice the value further on, within the group.

@@ -20,7 +20,7 @@ fn signed(b: u8) -> i16
 fn difference(s: u8, d: u8) -> i16
     ensures { result ≡ Coincidence.difference s d }
 {
-    signed(std::num::wrapping_sub_u8(s, d))
+    signed(s.wrapping_sub(d))
 }
 
 // The difference shifted down, and a size added.
@@ -37,10 +37,7 @@ pub fn along(g: u16, s: u8, d: u8, size: u8) -> i16
 pub fn inside(sum: i16, limit: u8) -> bool
     ensures { result ≡ Coincidence.inside sum limit }
 {
-    if sum < 0 {
-        return false;
-    }
-    sum <= limit as i16
+    0 <= sum && sum <= limit as i16
 }
 
 // The number of a bit, row by row.

@@ -1,21 +1,12 @@
 // The random number.
-ghost use Rattle.std.specs.Prelude.{◌≡◌, ◌*◌, ◌%◌};
+ghost use Rattle.std.specs.Prelude.{◌≡◌};
 ghost use Rattle.rules.specs.Arithmetic;
-
-// A product, of which 16 bits are kept.
-pub fn times_wrapped(a: u16, b: u16) -> u16
-    ensures { result ≡ a * b % 65536 }
-{
-    let p = a as u32 * b as u32;
-    let r = p % 65536;
-    r as u16
-}
 
 // The seed that comes after.
 pub fn next_seed(s: u16) -> u16
     ensures { result ≡ Arithmetic.next_seed s }
 {
-    std::num::wrapping_add_u16(times_wrapped(s, 28645), 31417)
+    s.wrapping_mul(28645).wrapping_add(31417)
 }
 
 // The random number of a seed, at most the limit.

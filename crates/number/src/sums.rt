@@ -1,7 +1,6 @@
 // Sums, compares and status of bytes and words: each function serves both widths.
 ghost use Rattle.std.specs.Prelude.{◌≡◌, ◌%◌, ◌<◌, ◌≤◌, nat_le};
 ghost use Rattle.rules.specs.Arithmetic;
-ghost use Rattle.rules.specs.Machine.{◌also◌};
 
 // Half of the numbers of a width.
 pub fn half(wide: bool) -> u32
@@ -82,34 +81,12 @@ pub fn carries(wide: bool, a: u16, b: u16) -> bool
     all(wide) <= s
 }
 
-// One of the two holds.
-fn differ(a: bool, b: bool) -> bool
-    ensures { result ≡ Arithmetic.differ a b }
-{
-    if a {
-        return !b;
-    }
-    b
-}
-
-// Both hold.
-fn both(a: bool, b: bool) -> bool
-    ensures { result ≡ (a also b) }
-{
-    if a {
-        return b;
-    }
-    false
-}
-
 // The numbers have like signs, and their sum another.
 pub fn overflows(wide: bool, a: u16, b: u16) -> bool
     ensures { result ≡ Arithmetic.overflows (Arithmetic.half wide) a b }
 {
     let sign = negative(wide, sum(wide, a, b));
-    let x = differ(negative(wide, a), sign);
-    let y = differ(negative(wide, b), sign);
-    both(x, y)
+    negative(wide, a) != sign && negative(wide, b) != sign
 }
 
 // A status bit, where the test holds.
@@ -147,7 +124,7 @@ fn tested_last(wide: bool, res: u16) -> u16
 fn odd_ones(b: u16) -> bool
     ensures { result ≡ Arithmetic.odd_ones b }
 {
-    u16::count_ones(b) % 2 == 1
+    b.count_ones() % 2 == 1
 }
 
 // The status of a sum.

@@ -1,13 +1,13 @@
 // Words of two bytes, and the journal's words, made and taken apart by shifts and masks.
 ghost use Rattle.std.specs.Prelude.{◌≡◌, ◌+◌, ◌*◌, ◌/◌, ◌%◌, ◌^◌, ◌<◌};
 ghost use Rattle.rules.specs.Machine.{joined, high_byte, low_byte, flagged};
-ghost use Rattle.rules.specs.Journal.{mark_word};
+ghost use Rattle.rules.specs.Journal.{mark_word, marks};
 
 // A word of its high byte and its low one.
 pub fn word_of(high: u8, low: u8) -> u16
     ensures { result ≡ joined high low }
 {
-    ((high as u16) << 8) | (low as u16)
+    u16::from_be_bytes([high, low])
 }
 
 pub fn high_of(w: u16) -> u8
@@ -45,6 +45,13 @@ pub fn kind_of(w: u32) -> u32
     ensures { result ≡ w / 2 ^ 29 }
 {
     w >> 29
+}
+
+// Whether it is a mark.
+pub fn is_mark(w: u32) -> bool
+    ensures { result ≡ marks w }
+{
+    kind_of(w) == 3
 }
 
 // The 29 bits under it.

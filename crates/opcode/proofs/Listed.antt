@@ -1,13 +1,6 @@
 -- The list of opcodes as a value, the test that it is what the rules say, and what an arm of `class_of` has from both.
-use mathlib.Core.Path.{◌≡◌, refl, ap}
-use mathlib.Core.Logic.{⊎_elim}
-use mathlib.Core.Bool.{Bool, true, false}
-use mathlib.Core.List.{List, [], ◌∷◌}
-use Prim.Native.Nat.{ℕ, zero, suc, ◌+◌, ◌%◌, ◌<◌, ◌≤◌}
-use native.Mathlib.Nat.{eq-or-lt_of_le, le_of_suc-le-suc, not-suc-le-zero}
-use native.Mathlib.Omega.{arith}
-use lib.Dec.{ltb}
-use borrow.Author.Tests.{ltb-true, lt-ltb, le-ltb}
+use Rattle.std.proofs.Common.{◌≡◌, refl, ap, ⊎_elim, Bool, true, false, List, [], ◌∷◌, ℕ, zero, suc, ◌+◌, ◌%◌, ◌<◌, ◌≤◌}
+use Rattle.std.proofs.Common.{eq-or-lt_of_le, le_of_suc-le-suc, not-suc-le-zero, arith, ltb, ltb-true, lt-ltb, le-ltb}
 use Rattle.rules.specs.Machine.{pick, ◌also◌, bit}
 use Rattle.rules.specs.Answers.{no_such, needs_host, ended}
 use Rattle.rules.specs.Opcodes.{Class, stops, does, starts, gram_class, move_class, class_of}

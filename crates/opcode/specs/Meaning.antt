@@ -1,12 +1,14 @@
 -- The code's classes and tasks, in the words of the rules.
+use Rattle.std.specs.Prelude.{Result, Ok, Err}
 use Rattle.rules.specs.Opcodes as opcodes
+use Rattle.machine.specs.declared.answers.Why.{Why}
 use Rattle.machine.specs.Meaning.{why_of}
 use Rattle.flow.specs.Meaning.{test_of}
 use Rattle.arith.specs.Meaning.{one_of, two_of}
 use Rattle.opcode.specs.declared.class.Task.{Task}
 use Rattle.opcode.specs.declared.class.Task.TheVariants.{Rtn, Rtnc, Rand, Back, Long, Call, All, Fmt, Test, Move, Branch, One, Fetch, Case, Push, Two, Mul, Div, Ex, Coinc}
 use Rattle.opcode.specs.declared.class.Class.{Class}
-use Rattle.opcode.specs.declared.class.Class.TheVariants.{Stops, Does, Starts}
+use Rattle.opcode.specs.declared.class.Class.TheVariants.{Does, Starts}
 
 abbrev pub task_of : Task → opcodes.Task
 task_of Rtn = opcodes.rtn
@@ -30,7 +32,7 @@ task_of (Div imm w) = opcodes.div imm w
 task_of (Ex w) = opcodes.ex w
 task_of Coinc = opcodes.coinc
 
-abbrev pub meant : Class → opcodes.Class
-meant (Stops why) = opcodes.stops (why_of why)
-meant (Does t) = opcodes.does (task_of t)
-meant (Starts imm w) = opcodes.starts imm w
+abbrev pub meant : Result Class Why → opcodes.Class
+meant (Err why) = opcodes.stops (why_of why)
+meant (Ok (Does t)) = opcodes.does (task_of t)
+meant (Ok (Starts imm w)) = opcodes.starts imm w

@@ -1,239 +1,149 @@
 // Decoding: from an operand's bytes to its cell.
-ghost use Rattle.std.specs.Prelude.{◌≡◌, ◌+◌, ◌-◌, ◌≤◌};
+ghost use Rattle.std.specs.Prelude.{◌≡◌, ◌+◌, ◌≤◌, true, IfOk};
 ghost use Rattle.rules.specs.Operands;
 ghost use Rattle.rules.specs.Operands.{on_data_stack, operand_of};
-ghost use Rattle.machine.specs.Meaning.{◌&◌, Gives, IsPad, Journal, Map, Nothing, Pad, Ring, SeenImage, SeenPad};
-ghost use Rattle.operand.specs.Meaning.{cell_of, place_of, Locates, Names};
+ghost use Rattle.machine.specs.Meaning.{valued, Does};
+ghost use Rattle.operand.specs.Meaning.{cell_of};
 
-use crate::places;
-use crate::places::{Located, Operand, Place};
-use machine::answers::Why;
-use machine::state::Now;
-use machine::{cells, grom, pad as cpu, state};
+use crate::places::Place;
+use machine::answers::{Why, need};
+use machine::cells;
+use machine::memory::Memory;
+use machine::state::Machine;
+use number::{addresses, bits, words};
 
 // ---- the offset
 
-fn short_offset(image: &[u8], map: &mut [u8], m: Now, aaaa: u8) -> Now
-    ensures { Gives result.word (Operands.short_offset aaaa) (SeenImage image & Map map) m result }
+#[tactic(auto, using(machine::proofs::Laws::steps), unfolding(rules::specs::Operands::short_offset))]
+fn short_offset(m: &mut Machine<'_>, aaaa: u8) -> Result<u16, Why>
+    ensures { Does (Operands.short_offset aaaa) m result }
 {
-    let low = grom::next_byte(image, map, m);
-    state::give_word(low, number::words::word_of(aaaa, low.byte))
+    let low = m.next_byte()?;
+    Ok(words::word_of(aaaa, low))
 }
 
-fn offset(image: &[u8], map: &mut [u8], m: Now, aaaa: u8) -> Now
-    ensures { Gives result.word (Operands.offset aaaa) (SeenImage image & Map map) m result }
+#[tactic(auto, using(machine::proofs::Laws::choosing), unfolding(rules::specs::Operands::offset))]
+fn offset(m: &mut Machine<'_>, aaaa: u8) -> Result<u16, Why>
+    ensures { Does (Operands.offset aaaa) m result }
 {
     if aaaa == 15 {
-        return grom::next_word(image, map, m);
+        m.next_word()
+    } else {
+        short_offset(m, aaaa)
     }
-    short_offset(image, map, m, aaaa)
 }
 
-fn add_index(image: &[u8], map: &mut [u8], pad: &[u8], m: Now, a: u16) -> Now
-    requires { IsPad pad.now }
-    ensures { Gives result.word (Operands.add_index a) (SeenImage image & Map map & SeenPad pad) m result }
+#[tactic(auto, using(machine::proofs::Laws::steps), unfolding(rules::specs::Operands::add_index))]
+fn add_index(m: &mut Machine<'_>, a: u16) -> Result<u16, Why>
+    ensures { Does (Operands.add_index a) m result }
 {
-    let x = grom::next_byte(image, map, m);
-    let at = x.byte as usize;
-    let w = cpu::peek_pad_word(pad, x, at);
-    state::give_word(w, number::addresses::plus(a, w.word))
+    let x = m.next_byte()?;
+    let w = m.load_word(Memory::Cpu, x as usize)?;
+    Ok(addresses::plus(a, w))
 }
 
 // With X, a pad word is added, before any indirection.
-pub fn indexed(image: &[u8], map: &mut [u8], pad: &[u8], m: Now, x: bool, a: u16) -> Now
-    requires { IsPad pad.now }
-    ensures { Gives result.word (Operands.indexed x a) (SeenImage image & Map map & SeenPad pad) m result }
+#[tactic(auto, using(machine::proofs::Laws::choosing), unfolding(rules::specs::Operands::indexed))]
+pub fn indexed(m: &mut Machine<'_>, x: bool, a: u16) -> Result<u16, Why>
+    ensures { Does (Operands.indexed x a) m result }
 {
-    if x {
-        return add_index(image, map, pad, m, a);
-    }
-    state::give_word(m, a)
+    if x { add_index(m, a) } else { Ok(a) }
 }
 
 // ---- the cell that an offset names
 
-fn through_word(pad: &[u8], m: Now, a: u16) -> Located
-    requires { IsPad pad.now }
-    ensures { Names (Operands.through_word a) (SeenPad pad) m result }
+#[tactic(auto, using(machine::proofs::Laws::steps), unfolding(rules::specs::Operands::through_word))]
+fn through_word(m: &mut Machine<'_>, a: u16) -> Result<Place, Why>
+    ensures { Does (Operands.through_word a) m (valued cell_of result) }
 {
-    let at = a as usize;
-    let w = cpu::peek_pad_word(pad, m, at);
-    Located {
-        place: Place::Vdp(w.word),
-        now: w,
-    }
+    let w = m.load_word(Memory::Cpu, a as usize)?;
+    Ok(Place::Vdp(w))
 }
 
-fn through_byte(pad: &[u8], m: Now, a: u16) -> Located
-    requires { IsPad pad.now }
-    ensures { Names (Operands.through_byte a) (SeenPad pad) m result }
+#[tactic(auto, using(machine::proofs::Laws::steps), unfolding(rules::specs::Operands::through_byte))]
+fn through_byte(m: &mut Machine<'_>, a: u16) -> Result<Place, Why>
+    ensures { Does (Operands.through_byte a) m (valued cell_of result) }
 {
-    let at = a as usize;
-    let b = cpu::peek_pad(pad, m, at);
-    let to = b.byte as u16;
-    Located {
-        place: Place::Cpu(to),
-        now: b,
-    }
+    let b = m.load(Memory::Cpu, a as usize)?;
+    Ok(Place::Cpu(b as u16))
 }
 
 // The data stack's area.
+#[tactic(auto, using(machine::proofs::Laws::testing))]
 pub fn on_data_stack(p: u16) -> bool
-    ensures { result ≡ on_data_stack p }
+    ensures is { result ≡ on_data_stack p }
+    ensures bounds { result ≡ true → (0xA0 ≤ p) × (p ≤ 0xBF) }
 {
-    if p < 0xA0 {
-        return false;
-    }
-    p <= 0xBF
-}
-
-// One less; 0 stays.
-fn down(b: u8) -> u8
-    ensures { result ≡ b - 1 }
-{
-    if b == 0 {
-        return 0;
-    }
-    b - 1
+    (0xA0..=0xBF).contains(&p)
 }
 
 // A pop off the data stack: the pointer's test, its store, and the cell.
-fn pop_cell(pad: &mut [u8], journal: &mut [u32], ring: &mut [usize], m: Now) -> Located
-    requires { IsPad pad.old }
-    ensures { Names Operands.pop_cell (Pad pad & Journal journal & Ring ring) m result }
+#[tactic(auto, using(machine::proofs::Laws::steps), unfolding(rules::specs::Operands::pop_cell))]
+fn pop_cell(m: &mut Machine<'_>) -> Result<Place, Why>
+    ensures { Does Operands.pop_cell m (valued cell_of result) }
 {
-    let p = cpu::peek_pad(pad, m, cells::DATA_POINTER);
-    let top = p.byte as u16;
-    let tested = state::need(p, on_data_stack(top), Why::OffStack);
-    let below = down(p.byte);
-    let lowered = cpu::poke_pad(pad, journal, ring, tested, cells::DATA_POINTER, below);
-    Located {
-        place: Place::Cpu(top),
-        now: lowered,
-    }
+    let p = m.load(Memory::Cpu, cells::DATA_POINTER)?;
+    need(on_data_stack(p as u16), Why::OffStack)?;
+    m.store(Memory::Cpu, cells::DATA_POINTER, p - 1)?;
+    Ok(Place::Cpu(p as u16))
 }
 
-fn through_pad(pad: &mut [u8], journal: &mut [u32], ring: &mut [usize], m: Now, a: u16) -> Located
-    requires { IsPad pad.old }
-    ensures { Names (Operands.through_pad a) (Pad pad & Journal journal & Ring ring) m result }
+#[tactic(auto, using(machine::proofs::Laws::choosing), unfolding(rules::specs::Operands::through_pad))]
+fn through_pad(m: &mut Machine<'_>, a: u16) -> Result<Place, Why>
+    ensures { Does (Operands.through_pad a) m (valued cell_of result) }
 {
     if a as usize == cells::STATUS {
-        return pop_cell(pad, journal, ring, m);
+        pop_cell(m)
+    } else {
+        through_byte(m, a)
     }
-    through_byte(pad, m, a)
 }
 
 // By the bits V and I.
-fn named(
-    pad: &mut [u8],
-    journal: &mut [u32],
-    ring: &mut [usize],
-    m: Now,
-    v: bool,
-    i: bool,
-    a: u16,
-) -> Located
-    requires { IsPad pad.old }
-    ensures { Names (Operands.named v i a) (Pad pad & Journal journal & Ring ring) m result }
+#[tactic(auto, using(machine::proofs::Laws::choosing), unfolding(rules::specs::Operands::named))]
+fn named(m: &mut Machine<'_>, v: bool, i: bool, a: u16) -> Result<Place, Why>
+    ensures { Does (Operands.named v i a) m (valued cell_of result) }
 {
-    if v {
-        if i {
-            return through_word(pad, m, a);
-        }
-        return Located {
-            place: Place::Vdp(a),
-            now: m,
-        };
-    }
-    if i {
-        return through_pad(pad, journal, ring, m, a);
-    }
-    Located {
-        place: Place::Cpu(a),
-        now: m,
+    match (v, i) {
+        (true, true) => through_word(m, a),
+        (true, false) => Ok(Place::Vdp(a)),
+        (false, true) => through_pad(m, a),
+        (false, false) => Ok(Place::Cpu(a)),
     }
 }
 
 // An operand of more than one byte, by its first: 1XVIaaaa.
-fn far_cell(
-    image: &[u8],
-    map: &mut [u8],
-    pad: &mut [u8],
-    journal: &mut [u32],
-    ring: &mut [usize],
-    m: Now,
-    b: u8,
-) -> Located
-    requires { IsPad pad.old }
-    ensures { Names (Operands.far_cell b) (SeenImage image & Map map & Pad pad & Journal journal & Ring ring) m result }
+#[tactic(auto, using(machine::proofs::Laws::steps), unfolding(rules::specs::Operands::far_cell))]
+fn far_cell(m: &mut Machine<'_>, b: u8) -> Result<Place, Why>
+    ensures { Does (Operands.far_cell b) m (valued cell_of result) }
 {
-    let a = offset(image, map, m, number::bits::nibble(b));
-    let e = indexed(image, map, pad, a, number::bits::bit(6, b), a.word);
-    named(
-        pad,
-        journal,
-        ring,
-        e,
-        number::bits::bit(5, b),
-        number::bits::bit(4, b),
-        e.word,
-    )
+    let a = offset(m, bits::nibble(b))?;
+    let e = indexed(m, bits::bit(6, b), a)?;
+    named(m, bits::bit(5, b), bits::bit(4, b), e)
 }
 
-fn any_cell(
-    image: &[u8],
-    map: &mut [u8],
-    pad: &mut [u8],
-    journal: &mut [u32],
-    ring: &mut [usize],
-    m: Now,
-    b: u8,
-) -> Located
-    requires { IsPad pad.old }
-    ensures { Names (Operands.any_cell b) (SeenImage image & Map map & Pad pad & Journal journal & Ring ring) m result }
+#[tactic(auto, using(machine::proofs::Laws::choosing), unfolding(rules::specs::Operands::any_cell))]
+fn any_cell(m: &mut Machine<'_>, b: u8) -> Result<Place, Why>
+    ensures { Does (Operands.any_cell b) m (valued cell_of result) }
 {
     if b < 0x80 {
-        let near = b as u16;
-        return Located {
-            place: Place::Cpu(near),
-            now: m,
-        };
+        Ok(Place::Cpu(b as u16))
+    } else {
+        far_cell(m, b)
     }
-    far_cell(image, map, pad, journal, ring, m, b)
 }
 
 // ---- the operand
 
-// A place that n bytes from there on are in range of, or a refusal.
-fn answered(m: Now, place: Place, n: usize) -> Operand
-    requires { n ≤ 2 }
-    ensures { ((cell_of (place_of result)).at + n ≤ 16384) × Locates (Operands.reached n (cell_of place)) Nothing m result }
-{
-    if m.answer != 0 {
-        return Operand::Refused(m);
-    }
-    if places::in_reach(n, place) {
-        return Operand::At(Located { place, now: m });
-    }
-    Operand::Refused(state::refused(m, places::outside(place)))
-}
-
 // An operand of which n bytes must be in range: 1 for a byte or a place, 2 for a word.
-pub fn operand(
-    image: &[u8],
-    map: &mut [u8],
-    pad: &mut [u8],
-    journal: &mut [u32],
-    ring: &mut [usize],
-    m: Now,
-    n: usize,
-) -> Operand
-    requires { IsPad pad.old × (n ≤ 2) }
-    ensures { ((cell_of (place_of result)).at + n ≤ 16384) × Locates (operand_of n) (SeenImage image & Map map & Pad pad & Journal journal & Ring ring) m result }
+#[tactic(auto, using(machine::proofs::Laws::steps), unfolding(rules::specs::Operands::operand_of, rules::specs::Operands::reached))]
+pub fn operand(m: &mut Machine<'_>, n: usize) -> Result<Place, Why>
+    requires { n ≤ 2 }
+    ensures reach { IfOk result (λ p. (cell_of p).at + n ≤ 16384) }
+    ensures does { Does (operand_of n) m (valued cell_of result) }
 {
-    let first = grom::next_byte(image, map, m);
-    let cell = any_cell(image, map, pad, journal, ring, first, first.byte);
-    let now = cell.now;
-    let place = cell.place;
-    answered(now, place, n)
+    let first = m.next_byte()?;
+    let place = any_cell(m, first)?;
+    need(place.in_reach(n), place.outside())?;
+    Ok(place)
 }

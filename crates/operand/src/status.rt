@@ -1,21 +1,20 @@
 // The condition bit of the status byte.
 ghost use Rattle.rules.specs.Instructions.{set_condition};
-ghost use Rattle.machine.specs.Meaning.{◌&◌, Does, IsPad, Journal, Pad, Ring};
+ghost use Rattle.machine.specs.Meaning.{Does};
 
+use machine::answers::Why;
 use machine::cells;
-use machine::state::Now;
+use machine::memory::Memory;
+use machine::state::Machine;
 
-pub fn set_condition(
-    pad: &mut [u8],
-    journal: &mut [u32],
-    ring: &mut [usize],
-    m: Now,
-    c: bool,
-) -> Now
-    requires { IsPad pad.old }
-    ensures { Does (set_condition c) (Pad pad & Journal journal & Ring ring) m result }
+#[tactic(auto, using(machine::proofs::Laws::steps), unfolding(rules::specs::Instructions::set_condition))]
+pub fn set_condition(m: &mut Machine<'_>, c: bool) -> Result<(), Why>
+    ensures { Does (set_condition c) m result }
 {
-    let s = machine::pad::peek_pad(pad, m, cells::STATUS);
-    let b = number::sums::with_condition(c, s.byte);
-    machine::pad::poke_pad(pad, journal, ring, s, cells::STATUS, b)
+    let s = m.load(Memory::Cpu, cells::STATUS)?;
+    m.store(
+        Memory::Cpu,
+        cells::STATUS,
+        number::sums::with_condition(c, s),
+    )
 }

@@ -1,28 +1,29 @@
 // An operand that is read and then stored to.
-ghost use Rattle.machine.specs.Meaning.{◌&◌, IsPad, IsVram, Journal, Map, Pad, Ring, SeenImage, SeenVram};
-ghost use Rattle.operand.specs.Meaning.{Targets};
+ghost use Rattle.std.specs.Prelude.{◌+◌, ◌<◌, ◌≤◌, IfOk};
+ghost use Rattle.rules.specs.Arithmetic.{half, span};
+ghost use Rattle.rules.specs.Operands.{byte_count};
+ghost use Rattle.machine.specs.Meaning.{valued, Does};
+ghost use Rattle.operand.specs.Meaning.{cell_of, target_of, read_target};
 
-use crate::places::Located;
-use crate::{decode, places, values};
-use machine::state::Now;
+use crate::places::Place;
+use crate::{decode, values};
+use machine::answers::Why;
+use machine::state::Machine;
 
-// Its place, and the state in which its value is the word that was read.
-pub fn read_target(
-    image: &[u8],
-    map: &mut [u8],
-    pad: &mut [u8],
-    vram: &[u8],
-    journal: &mut [u32],
-    ring: &mut [usize],
-    m: Now,
-    wide: bool,
-) -> Located
-    requires { IsPad pad.old × IsVram vram.now }
-    ensures { Targets wide (SeenImage image & Map map & Pad pad & SeenVram vram & Journal journal & Ring ring) m result }
+// Its place, and the value that was read there.
+#[derive(Clone, Copy)]
+pub struct Target {
+    pub place: Place,
+    pub value: u16,
+}
+
+#[tactic(auto, using(machine::proofs::Laws::steps), unfolding(crate::specs::Meaning::read_target))]
+pub fn read_target(m: &mut Machine<'_>, wide: bool) -> Result<Target, Why>
+    ensures reach { IfOk result (λ t. (cell_of t.place).at + byte_count wide ≤ 16384) }
+    ensures bound { IfOk result (λ t. t.value < span (half wide)) }
+    ensures does { Does (read_target wide) m (valued target_of result) }
 {
-    let o = decode::operand(image, map, pad, journal, ring, m, values::byte_count(wide));
-    let at = places::now_of(o);
-    let place = places::place_of(o);
-    let now = values::value(pad, vram, journal, ring, at, wide, place);
-    Located { place, now }
+    let place = decode::operand(m, values::byte_count(wide))?;
+    let value = values::value(m, wide, place)?;
+    Ok(Target { place, value })
 }

@@ -47,6 +47,7 @@ fn gather(text: &[u8], image: &mut [u8; 32768]) -> Result<(), BadLine>
     let mut left = text;
     let mut number = 0;
     while let Some((line, rest)) = first_line(left) {
+        // counted here: an iterator over lines, to be enumerated, would be longer
         number += 1;
         let Some(()) = take_line(line, image) else {
             return Err(BadLine { number });

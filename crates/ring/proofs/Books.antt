@@ -1,13 +1,7 @@
 -- The journal's words and their book in the words of the rules: one law for each way out of a function.
-use mathlib.Core.Path.{◌≡◌, refl, ◌∙◌, ap, ap₂, sym}
-use mathlib.Core.Bool.{Bool, true, false}
-use mathlib.Core.List.{List, [], ◌∷◌, ◌++◌}
-use Prim.Native.Nat.{ℕ, zero, suc, ◌+◌, ◌-◌, ◌/◌, ◌%◌, ◌^◌, ◌≤◌, ◌<◌}
-use native.Mathlib.Nat.{not-suc-le-zero, mod-add-mod}
-use native.Mathlib.Omega.{arith}
-use lib.ListN.{length, get_or, set, take, drop}
-use lib.Seq.{take-append-le, length-take-le}
-use borrow.Author.Tests.{lt-ltb, le-ltb, ne_eqb}
+use Rattle.std.proofs.Common.{◌≡◌, refl, ◌∙◌, ap, ap₂, sym, Bool, true, false, List, [], ◌∷◌, ◌++◌, ℕ, zero, suc, ◌+◌, ◌-◌, ◌%◌, ◌≤◌, ◌<◌, not-suc-le-zero, arith, length, get_or, set, take, drop, length-take-le, lt-ltb, le-ltb}
+use Rattle.std.proofs.Math.Nat.{mod-add-mod}
+use Rattle.std.proofs.Math.Seq.{take-append-le}
 use Rattle.rules.specs.Machine.{◌also◌, Mem, mem, beside}
 use Rattle.rules.specs.Journal.{turned, zero_top, marks, until_mark, oldest, older_words, forget}
 use Rattle.rules.specs.Rules.{spare}
@@ -43,14 +37,6 @@ bare = mem [] 0 [] [] [] [] 0 0 0 false
 
 -- ---- the words before the next mark
 
-pub marks_kind : (w : ℕ) {n : ℕ} → n ≡ w / 2 ^ 29 → n ≡ 3 → marks w ≡ true
-unfolding marks
-marks_kind w e h = rw (sym e ∙ h)
-
-pub marks_other : (w : ℕ) {n : ℕ} → n ≡ w / 2 ^ 29 → (n ≡ 3 → ⊥) → marks w ≡ false
-unfolding marks
-marks_other w e h = ne_eqb (w / 2 ^ 29) 3 (λ q. h (e ∙ q))
-
 pub until_mark_lem : (l : ℕ) (j : List ℕ) → marks (get_or j 0 0) ≡ true → 0 < length j → until_mark (take (suc l) j) ≡ 0
 until_mark_lem l [] h k = absurd (not-suc-le-zero k)
 until_mark_lem l (w ∷ ws) h k = rw h
@@ -73,20 +59,21 @@ few m l h =
     omega (arith, until_within (take l j), length-take-le l j (omega arith))
 
 -- the turns of the loop over a journal m, of which l words may still be dropped, and whose first word is w
-module _ (l w : ℕ) (m : Mem) (q : w ≡ get_or m.journal 0 0) (n : l ≡ 0 → ⊥) (h : l ≤ length m.journal) where
+module _ (l w : ℕ) (m : Mem) (q : w ≡ get_or m.journal 0 0) (n : 0 < l) (h : l ≤ length m.journal) where
   pub unmarked_stops : marks w ≡ true → m ≡ forget (until_mark (take l m.journal)) m
   unmarked_stops k = go l n h
     where
-      go : (l : ℕ) → (l ≡ 0 → ⊥) → l ≤ length m.journal → m ≡ forget (until_mark (take l m.journal)) m
-      go zero n h = absurd (n refl)
+      go : (l : ℕ) → 0 < l → l ≤ length m.journal → m ≡ forget (until_mark (take l m.journal)) m
+      go zero n h = absurd (not-suc-le-zero n)
       go (suc l) n h = sym (ap (λ (d : ℕ). forget d m) (until_mark_lem l m.journal (ap marks (sym q) ∙ k) (omega arith)) ∙ forget_none m)
 
-  pub unmarked_goes : {m₁ : Mem} → marks w ≡ false → m₁ ≡ forget 1 m → forget (until_mark (take (l - 1) m₁.journal)) m₁ ≡ forget (until_mark (take l m.journal)) m
-  unmarked_goes k e = ap (λ (y : Mem). forget (until_mark (take (l - 1) y.journal)) y) e ∙ go l n h
+  pub unmarked_goes : {m₁ : Mem} (k : ℕ) → k ≡ l - 1 → marks w ≡ false → m₁ ≡ forget 1 m
+      → forget (until_mark (take k m₁.journal)) m₁ ≡ forget (until_mark (take l m.journal)) m
+  unmarked_goes _ z k e = ap₂ (λ (d : ℕ) (y : Mem). forget (until_mark (take d y.journal)) y) z e ∙ go l n h
     where
-      go : (l : ℕ) → (l ≡ 0 → ⊥) → l ≤ length m.journal
+      go : (l : ℕ) → 0 < l → l ≤ length m.journal
           → forget (until_mark (take (l - 1) (forget 1 m).journal)) (forget 1 m) ≡ forget (until_mark (take l m.journal)) m
-      go zero n h = absurd (n refl)
+      go zero n h = absurd (not-suc-le-zero n)
       go (suc l) n h =
           let z : suc l - 1 ≡ l = omega arith in
           rw z (one_more m (until_mark (take l (forget 1 m).journal)) (few m l h) ∙ ap (λ (d : ℕ). forget d m) (sym (until_other l m.journal (ap marks (sym q) ∙ k) h)))

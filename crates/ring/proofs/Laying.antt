@@ -1,16 +1,8 @@
 -- A word laid in a step, as the rules have it. In a ring: where a place is free, nothing is dropped; where none is, one older word more is laid over, and the
 -- rest of its step goes with it.
-use mathlib.Core.Path.{◌≡◌, refl, ◌∙◌, ap, ap₂, sym, subst}
-use mathlib.Core.Bool.{Bool, true, false}
-use mathlib.Core.List.{List, [], ◌∷◌, ◌++◌}
-use Prim.Native.Nat.{ℕ, zero, suc, ◌+◌, ◌-◌, ◌%◌, ◌^◌, ◌≤◌, ◌<◌}
-use native.Mathlib.Nat.{not-suc-le-zero, mod-eq_of_lt, mod-mod, mod-add-mod, add-mod_right}
-use native.Mathlib.Numerals.{add-one}
-use native.Mathlib.Omega.{arith}
-use lib.Dec.{ltb}
-use lib.ListN.{length, get_or, set, take, drop, length-set}
-use lib.Seq.{take-append-le, take-set-le, set-set}
-use borrow.Author.Tests.{lt-ltb, le-ltb, ltb-true, ltb-false}
+use Rattle.std.proofs.Common.{◌≡◌, refl, ◌∙◌, ap, ap₂, sym, subst, Bool, true, false, List, [], ◌∷◌, ◌++◌, ℕ, zero, suc, ◌+◌, ◌-◌, ◌%◌, ◌^◌, ◌≤◌, ◌<◌, not-suc-le-zero, mod-eq_of_lt, add-one, arith, ltb, length, get_or, set, take, drop, length-set, set-set, lt-ltb, le-ltb, ltb-true, ltb-false}
+use Rattle.std.proofs.Math.Nat.{mod-mod, mod-add-mod, add-mod_right}
+use Rattle.std.proofs.Math.Seq.{take-append-le, take-set-le}
 use Rattle.rules.specs.Machine.{pick, ◌also◌, Mem}
 use Rattle.rules.specs.Journal.{turned, lay, marks, until_mark, oldest, older_words, place_on, forget}
 use Rattle.rules.specs.Rules.{room, spare}

@@ -1,15 +1,8 @@
 -- The caller's words and the journal that begins at a place among them: a word read, a word set, the oldest one dropped.
-use mathlib.Core.Path.{◌≡◌, refl, ◌∙◌, ap, ap₂, sym, subst}
-use mathlib.Core.Bool.{Bool, true, false}
-use mathlib.Core.List.{List, [], ◌∷◌, ◌++◌, append-nil, append_assoc}
-use Prim.Native.Nat.{ℕ, zero, suc, ◌+◌, ◌-◌, ◌%◌, ◌^◌, ◌≤◌, ◌<◌}
-use native.Mathlib.Nat.{mod-lt, mod-eq_of_lt, mod-mod, mod-add-mod, add-mod-mod, add-mod_right, mod-eq-sub-mod, mod_self}
-use native.Mathlib.Numerals.{add-one}
-use native.Mathlib.Omega.{arith}
-use lib.Dec.{ltb}
-use lib.ListN.{length, get_or, set, take, drop, length-append, length-set, length-drop, length-take, drop_of_length-le, take-append-drop, get_or-append}
-use lib.Seq.{take_all, drop-cons, get_or-append-add, get_or-take, get_or-drop, set-append_left, take-set-le, take-set-lt, drop-set-lt, drop-set-add, take-suc-set, take_at, drop_at, ext_get_or}
-use borrow.Author.Tests.{ltb-true, ltb-false}
+use Rattle.std.proofs.Common.{◌≡◌, refl, ◌∙◌, ap, ap₂, sym, subst, Bool, true, false, List, [], ◌∷◌, ◌++◌, append-nil, append_assoc, ℕ, zero, suc, ◌+◌, ◌-◌, ◌%◌, ◌^◌, ◌≤◌, ◌<◌, mod-lt, mod-eq_of_lt, add-one, arith, ltb, length, get_or, set, take, drop, length-append, length-set, length-drop, length-take, drop_of_length-le, take-append-drop, take_all, drop-cons, get_or-append-add, get_or-take, get_or-drop, drop-set-lt, take-suc-set, take_at, drop_at, ext_get_or, ltb-true, ltb-false}
+use Rattle.std.proofs.Math.Nat.{mod-mod, mod-add-mod, add-mod-mod, add-mod_right, mod-eq-sub-mod, mod_self}
+use Rattle.std.proofs.Math.ListN.{get_or-append}
+use Rattle.std.proofs.Math.Seq.{set-append_left, take-set-le, take-set-lt, drop-set-add}
 use Rattle.rules.specs.Machine.{pick}
 use Rattle.rules.specs.Journal.{turned, place_on}
 use Rattle.ring.specs.Meaning.{slot_of}
@@ -32,9 +25,6 @@ length_turned false a j = refl
 
 pub as_long : {n : ℕ} (r : Bool) (a : ℕ) (j : List ℕ) → n ≤ length j → n ≤ length (turned r a j)
 as_long r a j h = rw (length_turned r a j) h
-
-pub no_longer : {n : ℕ} (r : Bool) (a : ℕ) (j : List ℕ) → length j ≤ n → length (turned r a j) ≤ n
-no_longer r a j h = rw (length_turned r a j) h
 
 -- the caller's words again
 abbrev pub unturned : Bool → ℕ → List ℕ → List ℕ

@@ -1,5 +1,5 @@
 -- What the journal's words and the book beside them say, in the words of the rules.
-use Rattle.std.specs.Prelude.{◌≡◌, Bool, true, false, List, [], ◌∷◌, ℕ, ◌+◌, ◌-◌, ◌%◌, ◌^◌, ltb, length, get_or, take}
+use Rattle.std.specs.Prelude.{◌≡◌, Bool, true, false, List, [], ◌∷◌, Option, None, Some, ℕ, ◌+◌, ◌-◌, ◌%◌, ◌^◌, ltb, length, get_or, take}
 use Rattle.std.specs.Borrow.{MutBor}
 use denote.Triple.Both.{Both}
 use Rattle.rules.specs.Machine.{pick, Mem, mem}
@@ -47,7 +47,12 @@ rest l o k a = pick (ltb 0 (laid_over (length l) o k)) (until_mark (take (left_o
 abbrev pub ringed : List ℕ → ℕ → ℕ → ℕ → Mem
 ringed l o k a = forget (rest l o k a) (left_of l o k a)
 
--- ---- the ring that is lent beside the journal: the place of the step's first word, and the number of older words. A plain journal is lent none
+-- ---- the ring beside the journal: the place of the step's first word, and the number of older words. A plain journal has none
+
+-- as a list, of that place, if there is one, and that number
+abbrev pub listed : Option ℕ → ℕ → List ℕ
+listed None o = []
+listed (Some first) o = first ∷ o ∷ []
 
 unfoldable pub rings : List ℕ → Bool
 rings r = ltb 1 (length r)
@@ -68,12 +73,10 @@ carrying s x = mem x.image x.groups x.pad x.vram x.regs s.journal s.used s.older
 abbrev pub Laid : ℕ → Mem → Mem → Type 0
 Laid w m c = (room (spare m) ≡ true) × (c ≡ lay w (spare m))
 
-abbrev pub Lays : ℕ → Both (MutBor (List ℕ)) (MutBor (List ℕ)) → Both (MutBor (List ℕ)) (MutBor (List ℕ)) → ℕ → Type 0
-Lays w j ring u =
-    (ring.exit.now ≡ ring.entry.now)
-    × ((o a : ℕ) → Laid w (seen j.entry.now ring.entry.now o a u) (seen j.exit.now ring.exit.now o a (u + 1)))
+abbrev pub Lays : ℕ → Both (MutBor (List ℕ)) (MutBor (List ℕ)) → Option ℕ → ℕ → Type 0
+Lays w j first u = (o a : ℕ) → Laid w (seen j.entry.now (listed first o) o a u) (seen j.exit.now (listed first o) o a (u + 1))
 
--- what is lent where a step begins by the book b, in a journal of n words
+-- what is beside a journal of n words where a step begins by the book b
 abbrev pub lent_by : ℕ → Book → List ℕ
 lent_by n b = pick b.ring ((b.place + b.used) % n ∷ b.used ∷ []) []
 

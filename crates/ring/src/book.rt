@@ -68,12 +68,7 @@ pub fn wipe(journal: &mut [u32], b: Book, i: usize) -> Book
 {
     let at = slot(journal.len(), b.ring, b.place, i);
     journal[at] = 0;
-    Book {
-        used: i,
-        older: b.older,
-        place: b.place,
-        ring: b.ring,
-    }
+    Book { used: i, ..b }
 }
 
 // The oldest word dropped.
@@ -84,13 +79,11 @@ fn forget_one(journal: &mut [u32], b: Book) -> Book
     let n = journal.len();
     let at = b.place % n;
     journal[at] = 0;
-    let used = b.used - 1;
-    let older = b.older - 1;
     Book {
-        used,
-        older,
+        used: b.used - 1,
+        older: b.older - 1,
         place: after(n, at),
-        ring: b.ring,
+        ..b
     }
 }
 
@@ -100,15 +93,12 @@ fn forget_unmarked(journal: &mut [u32], b: Book, most: usize) -> Book
     ensures { Becomes (λ m. forget (until_mark (take most m.journal)) m) journal b result }
 {
     let mut c = b;
-    let mut left = most;
-    while left != 0 {
+    for _ in 0..most {
         let w = word_at(journal, c, 0);
-        let kind = number::words::kind_of(w);
-        if kind == 3 {
+        if number::words::is_mark(w) {
             return c;
         }
         c = forget_one(journal, c);
-        left -= 1;
     }
     c
 }
@@ -134,8 +124,7 @@ pub fn close(journal: &mut [u32], b: Book, words: usize) -> Book
         return Book {
             used: words,
             older: b.used,
-            place: b.place,
-            ring: false,
+            ..b
         };
     }
     let n = journal.len();
@@ -144,8 +133,7 @@ pub fn close(journal: &mut [u32], b: Book, words: usize) -> Book
         return Book {
             used: b.used + words,
             older: b.used,
-            place: b.place,
-            ring: true,
+            ..b
         };
     }
     let older = n - words;
@@ -153,21 +141,20 @@ pub fn close(journal: &mut [u32], b: Book, words: usize) -> Book
         used: n,
         older,
         place: further(n, b.place, words - free),
-        ring: true,
+        ..b
     };
     forget_unmarked(journal, kept, older)
 }
 
 // A word laid where so many are used; in a ring, where so many are the step's own, from its first word on. Any place is below 2^61, so that the sum fits.
-pub fn lay(journal: &mut [u32], ring: &mut [usize], used: usize, w: u32)
+pub fn lay(journal: &mut [u32], first: Option<usize>, used: usize, w: u32)
     requires { used < length journal.old }
-    ensures { Lays w journal ring used }
+    ensures { Lays w journal first used }
 {
-    if ring.len() < 2 {
+    let Some(first) = first else {
         journal[used] = w;
         return;
-    }
-    let first = ring[0] % 2305843009213693952;
-    let at = (first + used) % journal.len();
+    };
+    let at = (first % 2305843009213693952 + used) % journal.len();
     journal[at] = w;
 }

@@ -16,7 +16,7 @@ reads_then_then : {A B : Type 0} (o : Out A) (w x : A → ℕ → Mem → List �
 reads_then_then (got a pc m) w x g y h = h a pc m
 reads_then_then (stopped n m) w x g y h = refl
 
-reads_then_lem : {A B : Type 0} (r : Rule A) (f : A → Rule B) (pc : ℕ) (m : Mem)
+pub reads_then_lem : {A B : Type 0} (r : Rule A) (f : A → Rule B) (pc : ℕ) (m : Mem)
     → reads (r >>= f) pc m ≡ reads r pc m ++ reads_then (exec r pc m) (λ a pc₁ m₁. reads (f a) pc₁ m₁)
 unfolding exec reads ◌>>=◌
 reads_then_lem (give a) f pc m = refl
@@ -46,7 +46,7 @@ reads_bind {B = B} o v o₁ r f e =
 
 -- ---- the map
 
-marked_append : (k l z : List ℕ) → marked (k ++ l) z ≡ marked l (marked k z)
+pub marked_append : (k l z : List ℕ) → marked (k ++ l) z ≡ marked l (marked k z)
 unfolding marked
 marked_append [] l z = refl
 marked_append (a ∷ k) l z = marked_append k l (set z a 1)

@@ -22,7 +22,7 @@ sent_then_then : {A B : Type 0} (o : Out A) (w x : A → ℕ → Mem → List �
 sent_then_then (got a pc m) w x g y h = h a pc m
 sent_then_then (stopped n m) w x g y h = refl
 
-sent_then_lem : {A B : Type 0} (r : Rule A) (f : A → Rule B) (pc : ℕ) (m : Mem)
+pub sent_then_lem : {A B : Type 0} (r : Rule A) (f : A → Rule B) (pc : ℕ) (m : Mem)
     → sent (r >>= f) pc m ≡ sent r pc m ++ sent_then (exec r pc m) (λ a pc₁ m₁. sent (f a) pc₁ m₁)
 unfolding exec sent ◌>>=◌
 sent_then_lem (give a) f pc m = refl
@@ -67,7 +67,7 @@ nothing_then : (o : Out ℕ) (x : ℕ → ℕ → Mem → List ℕ) → ((v pc :
 nothing_then (got a pc m) x h = h a pc m
 nothing_then (stopped n m) x h = refl
 
-quiet_sent : {A : Type 0} {r : Rule A} → Quiet r → (pc : ℕ) (m : Mem) → sent r pc m ≡ []
+pub quiet_sent : {A : Type 0} {r : Rule A} → Quiet r → (pc : ℕ) (m : Mem) → sent r pc m ≡ []
 unfolding sent
 quiet_sent gives pc m = refl
 quiet_sent (refuses h) pc m = refl

@@ -1,58 +1,93 @@
 -- What a tick does to the output that it is lent, and what the code's values say of it, in the words of the rules.
-use Rattle.std.specs.Prelude.{◌≡◌, List, [], ◌∷◌, ℕ, suc, ◌+◌, ◌≤◌, ltb, length, set}
-use Rattle.rules.specs.Answers.{output_full}
-use Rattle.rules.specs.Rules.{Rule, Deed, ◌>>◌, sends, emit, need}
-use Rattle.rules.specs.Sound.{Source, Due, due}
-use Rattle.machine.specs.declared.state.Now.{Now}
-use Rattle.machine.specs.Meaning.{Lent, Parts, Around, Stand, out_of, Goes, unseen_all, start, end}
-use Rattle.sound.specs.declared.list.Sent.{Sent}
-use Rattle.sound.specs.declared.block.Next.{Next}
-use Rattle.sound.specs.declared.tick.Ticked.{Ticked}
+use Rattle.std.specs.Prelude.{◌≡◌, List, [], ◌∷◌, ℕ, suc, ◌+◌, ◌-◌, ◌≤◌, length, set, Result, Ok, Err}
+use Rattle.std.specs.Borrow.{MutBor}
+use denote.Triple.Both.{Both}
+use Rattle.rules.specs.Answers.{Answer, answer_for}
+use Rattle.rules.specs.Machine.{cpu, list_cell, count_cell}
+use Rattle.rules.specs.Rules.{Rule, give, ◌>>◌, poke, sent}
+use Rattle.rules.specs.Operands.{poke_word}
+use Rattle.rules.specs.Sound.{Source, Due, due, closed}
+use Rattle.machine.specs.declared.answers.Why.{Why}
+use Rattle.machine.specs.declared.answers.Why.TheVariants.{OutputFull}
+use Rattle.machine.specs.Meaning.{why_of, LentMachine, Held, State, state, kept, End, done, failed, run}
+use Rattle.sound.specs.declared.list.Output.{Output}
+use Rattle.sound.specs.declared.block.Due as code
 
 -- ---- the output
+
+-- its bytes, and how many of them are in use
+pub record Written : Type 0 where
+  pub bytes : List ℕ
+  pub used : ℕ
+
+abbrev pub written : Output → Written
+written o = record { bytes = o.bytes.now; used = o.sent }
 
 -- bytes laid into it one after the other, the first into cell k
 unfoldable pub laid : ℕ → List ℕ → List ℕ → List ℕ
 laid k [] o = o
 laid k (b ∷ bs) o = laid (suc k) bs (set o k b)
 
--- the rule goes from s to t and gives a, and what it sends is laid into an output of which k bytes were in use, and then l are: never more than it has
-pub record Lays {A : Type 0} (s : Stand) (r : Rule A) (a : A) (t : Stand) (k l : ℕ) (lent left : List ℕ) : Type 0 where
-  pub goes : Goes s r a t
-  pub output : left ≡ laid k (sends (out_of s) r) lent
-  pub count : l ≡ k + length (sends (out_of s) r)
-  pub fits : k ≤ length lent → l ≤ length lent
+-- behind those in use
+unfoldable pub writing : List ℕ → Written → Written
+writing bs o = record { bytes = laid o.used bs o.bytes; used = o.used + length bs }
+
+-- ---- what a rule does to a machine and an output
+
+-- a rule done, with its value, or refused
+pub data Heard (A : Type 0) : Type 0 where
+  played : A → State → Written → Heard A
+  refused : Answer → Held → Written → Heard A
+
+abbrev pub joining : {A : Type 0} → End A → Written → Heard A
+joining (done v s) o = played v s o
+joining (failed n x) o = refused n x o
+
+unfoldable pub plays : {A : Type 0} → Rule A → State → Written → Heard A
+plays r s o = joining (run r s) (writing (sent r s.pc s.rest.mem) o)
+
+-- what the code left
+abbrev pub hears : {A : Type 0} → Result A Why → State → Written → Heard A
+hears (Ok v) s o = played v s o
+hears (Err why) s o = refused (answer_for (why_of why)) s.rest o
 
 -- ---- what a contract says
 
--- how many bytes an output has
-abbrev pub room_in : Lent → ℕ
-room_in o = length o.entry.now
+abbrev pub LentOutput : Type 0
+LentOutput = Both (MutBor Output) (MutBor Output)
 
--- as `Gives`: beside the parts of the machine the output, with how many of its bytes were in use and how many are
-abbrev pub Adds : {A : Type 0} → A → Rule A → (Parts → Parts) → Lent → ℕ → ℕ → Now → Now → Type 0
-Adds a r f o k l m n = (rest : Around (f unseen_all)) → Lays (start (f unseen_all) rest m) r a (end (f unseen_all) rest n) k l o.entry.now o.exit.now
+-- how many bytes more an output has
+abbrev pub room_left : LentOutput → ℕ
+room_left o = length o.entry.now.bytes.now - o.entry.now.sent
 
--- from its first byte on: l bytes are sent
-abbrev pub Plays : {A : Type 0} → A → Rule A → (Parts → Parts) → Lent → ℕ → Now → Now → Type 0
-Plays a r f o l m n = Adds a r f o 0 l m n
+-- the slice is still the one that was lent, and no more of it is in use than it has
+pub record Stays (o p : Output) : Type 0 where
+  pub same : p.bytes.ghost_name ≡ o.bytes.ghost_name
+  pub long : length p.bytes.now ≡ length o.bytes.now
+  pub fits : o.sent ≤ length o.bytes.now → p.sent ≤ length p.bytes.now
 
--- one byte behind k, unless it is refused
-abbrev pub AddsOne : Deed → (Parts → Parts) → Lent → ℕ → Now → Sent → Type 0
-AddsOne r f o k m s = (s.now.answer ≡ 0 → s.count ≡ k + 1) × Adds tt r f o k s.count m s.now
+-- the rule leads from the machine and the output as they were lent to both as they are left, and to this result
+abbrev pub Plays : {A : Type 0} → Rule A → LentMachine → LentOutput → Result A Why → Type 0
+Plays r m o res =
+    (plays r (state m.entry.now) (written o.entry.now) ≡ hears res (state m.exit.now) (written o.exit.now))
+    × (kept m.exit.now ≡ kept m.entry.now) × Stays o.entry.now o.exit.now
 
--- a tick, or a part of it, and the source flag that it leaves
-abbrev pub Ticks : Rule Source → (Parts → Parts) → Lent → Now → Ticked → Type 0
-Ticks r f o m t = Plays t.source r f o t.sent m t.now
+-- a byte is sent, where there is room
+abbrev pub SendsByte : ℕ → Output → Output → Result (Unit {0}) Why → Type 0
+SendsByte b o p (Ok _) = (o.sent + 1 ≤ length o.bytes.now) × (p.sent ≡ o.sent + 1) × (written p ≡ writing (b ∷ []) (written o)) × Stays o p
+SendsByte b o p (Err e) = (length o.bytes.now ≤ o.sent) × (e ≡ OutputFull) × (p ≡ o)
 
--- ---- a byte, and a block
-
--- the end of `send_next`
-unfoldable pub send_byte : ℕ → ℕ → Deed
-send_byte left b = do
-  need (ltb 0 left) output_full
-  emit b
+abbrev pub Sends : ℕ → LentOutput → Result (Unit {0}) Why → Type 0
+Sends b o res = SendsByte b o.entry.now o.exit.now res
 
 -- what a block leaves
-abbrev pub due_of : Next → Due
-due_of n = due n.list n.count n.source
+abbrev pub due_of : code.Due → Due
+due_of d = due d.list d.count d.source
+
+-- what follows a block: where the next one is and when it is due are stored, and pc is popped if it was pushed
+unfoldable pub book : Source → Due → Rule Source
+book v d = do
+  poke_word cpu list_cell d.list
+  poke cpu count_cell d.count
+  closed v
+  give d.source

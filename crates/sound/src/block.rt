@@ -1,93 +1,79 @@
 // A block of a list: its bytes and the count, or a new address.
-ghost use Rattle.std.specs.Prelude.{◌≡◌};
 ghost use Rattle.rules.specs.Sound;
 ghost use Rattle.rules.specs.Sound.{send_block};
-ghost use Rattle.machine.specs.Meaning.{◌&◌, Gives, IsVram, Map, SeenImage, SeenVram};
-ghost use Rattle.sound.specs.Meaning.{Plays, room_in, due_of};
+ghost use Rattle.machine.specs.Meaning.{valued, Does};
+ghost use Rattle.sound.specs.Meaning.{Plays, room_left, due_of};
 
 use crate::list;
-use machine::state::Now;
+use crate::list::Output;
+use machine::answers::Why;
+use machine::state::Machine;
+use number::{addresses, words};
 
 // Sizes that are no block of bytes: a new address, in the same source and in the other.
 const SAME: u8 = 0;
 
 const OTHER: u8 = 255;
 
-// What a block leaves: the address and the source of the one after it, how many ticks on that is due, and how many bytes were sent.
+// What is due after a block: the address and the source of the one after it, and how many ticks on that is.
 #[derive(Clone, Copy)]
-pub struct Next {
-    pub now: Now,
+pub struct Due {
     pub list: u16,
     pub count: u8,
     pub source: bool,
-    pub sent: usize,
 }
 
 // n bytes sent, and the count.
+#[tactic(auto, using(crate::proofs::Laws::playing), unfolding(rules::specs::Sound::send_block))]
 fn send_block(
-    image: &[u8],
-    map: &mut [u8],
-    vram: &[u8],
-    output: &mut [u8],
-    m: Now,
+    m: &mut Machine<'_>,
+    output: &mut Output<'_>,
     source: bool,
     a: u16,
     n: u8,
-) -> Next
-    requires { IsVram vram.now }
-    ensures { Plays (due_of result) (send_block (room_in output) source a n) (SeenImage image & Map map & SeenVram vram) output result.sent m result.now }
+) -> Result<Due, Why>
+    ensures { Plays (send_block (room_left output) source a n) m output (valued due_of result) }
 {
-    let first = number::addresses::plus(a, 1);
-    let last = number::addresses::plus(a, n as u16 + 1);
-    let beyond = number::addresses::plus(a, n as u16 + 2);
-    let sent = list::send_bytes(image, map, vram, output, m, source, first, n);
-    let k = list::list_byte(image, map, vram, sent.now, source, last);
-    Next {
-        now: k,
-        list: beyond,
-        count: k.byte,
+    let width = n as u16;
+    list::send_bytes(m, output, source, addresses::plus(a, 1), n)?;
+    let count = list::list_byte(m, source, addresses::plus(a, width + 1))?;
+    Ok(Due {
+        list: addresses::plus(a, width + 2),
+        count,
         source,
-        sent: sent.count,
-    }
+    })
 }
 
 // A new address, in one source or the other.
-fn leap(image: &[u8], map: &mut [u8], vram: &[u8], m: Now, source: bool, a: u16, to: bool) -> Next
-    requires { IsVram vram.now }
-    ensures { (result.sent ≡ 0) × Gives (due_of result) (Sound.leap source a to) (SeenImage image & Map map & SeenVram vram) m result.now }
+#[tactic(auto, using(machine::proofs::Laws::steps), unfolding(rules::specs::Sound::leap))]
+fn leap(m: &mut Machine<'_>, source: bool, a: u16, to: bool) -> Result<Due, Why>
+    ensures { Does (Sound.leap source a to) m (valued due_of result) }
 {
-    let first = number::addresses::plus(a, 1);
-    let second = number::addresses::plus(a, 2);
-    let high = list::list_byte(image, map, vram, m, source, first);
-    let low = list::list_byte(image, map, vram, high, source, second);
-    Next {
-        now: low,
-        list: number::words::word_of(high.byte, low.byte),
+    let high = list::list_byte(m, source, addresses::plus(a, 1))?;
+    let low = list::list_byte(m, source, addresses::plus(a, 2))?;
+    Ok(Due {
+        list: words::word_of(high, low),
         count: 1,
         source: to,
-        sent: 0,
-    }
+    })
 }
 
 // By its size.
+#[tactic(auto, using(crate::proofs::Laws::playing), unfolding(rules::specs::Sound::block))]
 pub fn block(
-    image: &[u8],
-    map: &mut [u8],
-    vram: &[u8],
-    output: &mut [u8],
-    m: Now,
+    m: &mut Machine<'_>,
+    output: &mut Output<'_>,
     source: bool,
     a: u16,
     n: u8,
-) -> Next
-    requires { IsVram vram.now }
-    ensures { Plays (due_of result) (Sound.block (room_in output) source a n) (SeenImage image & Map map & SeenVram vram) output result.sent m result.now }
+) -> Result<Due, Why>
+    ensures { Plays (Sound.block (room_left output) source a n) m output (valued due_of result) }
 {
     if n == SAME {
-        return leap(image, map, vram, m, source, a, source);
+        return leap(m, source, a, source);
     }
     if n == OTHER {
-        return leap(image, map, vram, m, source, a, !source);
+        return leap(m, source, a, !source);
     }
-    send_block(image, map, vram, output, m, source, a, n)
+    send_block(m, output, source, a, n)
 }

@@ -1,101 +1,69 @@
 // The bytes of a list: read from GROM or from VDP RAM, and sent to a lent output.
-ghost use Rattle.std.specs.Prelude.{◌-◌};
+ghost use Rattle.std.specs.Prelude.{◌≡◌, ◌+◌, IfOk};
 ghost use Rattle.rules.specs.Sound.{list_byte, send_next, send_bytes};
-ghost use Rattle.machine.specs.Meaning.{◌&◌, Gives, IsVram, Map, Nothing, SeenImage, SeenVram};
-ghost use Rattle.sound.specs.Meaning.{AddsOne, Plays, room_in, send_byte};
+ghost use Rattle.machine.specs.Meaning.{Does};
+ghost use Rattle.sound.specs.Meaning.{Sends, Plays, room_left};
 
 use machine::answers::Why;
-use machine::state;
-use machine::state::Now;
+use machine::memory::Memory;
+use machine::state::Machine;
+use number::addresses;
 
-// The state, and how many bytes of the output are in use.
-#[derive(Clone, Copy)]
-pub struct Sent {
-    pub now: Now,
-    pub count: usize,
+// An output, and how many of its bytes are in use.
+#[derive(Drop)]
+pub struct Output<'a> {
+    pub bytes: &'a mut [u8],
+    pub sent: usize,
+}
+
+impl Output<'_> {
+    // A byte, where there is room.
+    fn send(&mut self, b: u8) -> Result<(), Why>
+        ensures { Sends b self result }
+    {
+        if self.bytes.len() <= self.sent {
+            return Err(Why::OutputFull);
+        }
+        self.bytes[self.sent] = b;
+        self.sent += 1;
+        Ok(())
+    }
 }
 
 // A byte of a list.
-pub fn list_byte(image: &[u8], map: &mut [u8], vram: &[u8], m: Now, source: bool, a: u16) -> Now
-    requires { IsVram vram.now }
-    ensures { Gives result.byte (list_byte source a) (SeenImage image & Map map & SeenVram vram) m result }
+#[tactic(auto, using(machine::proofs::Laws::choosing), unfolding(rules::specs::Sound::list_byte))]
+pub fn list_byte(m: &mut Machine<'_>, source: bool, a: u16) -> Result<u8, Why>
+    ensures { Does (list_byte source a) m result }
 {
-    if source {
-        let at = a as usize;
-        return machine::vdp::peek_vdp(vram, m, at);
-    }
-    machine::grom::grom_byte(image, map, m, a)
-}
-
-// A byte into the output, where there is room.
-fn send_byte(output: &mut [u8], m: Now, sent: usize, b: u8) -> Sent
-    ensures { AddsOne (send_byte (room_in output - sent) b) Nothing output sent m result }
-{
-    if m.answer != 0 {
-        return Sent {
-            now: m,
-            count: sent,
-        };
-    }
-    if output.len() <= sent {
-        return Sent {
-            now: state::refused(m, Why::OutputFull),
-            count: sent,
-        };
-    }
-    output[sent] = b;
-    let count = sent + 1;
-    Sent { now: m, count }
+    let memory = if source { Memory::Vdp } else { Memory::Grom };
+    m.load(memory, a as usize)
 }
 
 // A byte of a list into it.
-fn send_next(
-    image: &[u8],
-    map: &mut [u8],
-    vram: &[u8],
-    output: &mut [u8],
-    m: Now,
-    sent: usize,
-    source: bool,
-    a: u16,
-) -> Sent
-    requires { IsVram vram.now }
-    ensures { AddsOne (send_next (room_in output - sent) source a) (SeenImage image & Map map & SeenVram vram) output sent m result }
+#[tactic(auto, using(crate::proofs::Laws::playing), unfolding(rules::specs::Sound::send_next))]
+fn send_next(m: &mut Machine<'_>, output: &mut Output<'_>, source: bool, a: u16) -> Result<(), Why>
+    ensures one { IfOk result (λ _. output.new.sent ≡ output.old.sent + 1) }
+    ensures does { Plays (send_next (room_left output) source a) m output result }
 {
-    let b = list_byte(image, map, vram, m, source, a);
-    send_byte(output, b, sent, b.byte)
+    let b = list_byte(m, source, a)?;
+    output.send(b)
 }
 
 // n of them from an address on.
+#[tactic(auto, using(crate::proofs::Laws::playing, machine::proofs::Laws::looping), unfolding(rules::specs::Sound::send_bytes))]
 pub fn send_bytes(
-    image: &[u8],
-    map: &mut [u8],
-    vram: &[u8],
-    output: &mut [u8],
-    m: Now,
+    m: &mut Machine<'_>,
+    output: &mut Output<'_>,
     source: bool,
     a: u16,
     n: u8,
-) -> Sent
-    requires { IsVram vram.now }
-    ensures { Plays tt (send_bytes (room_in output) source a n) (SeenImage image & Map map & SeenVram vram) output result.count m result.now }
+) -> Result<(), Why>
+    ensures { Plays (send_bytes (room_left output) source a n) m output result }
 {
-    let mut x = m;
     let mut at = a;
-    let mut left = n;
-    let mut sent: usize = 0;
-    while 0 < left {
-        let next = send_next(image, map, vram, output, x, sent, source, at);
-        if next.now.answer != 0 {
-            return next;
-        }
-        x = next.now;
-        sent = next.count;
-        at = number::addresses::plus(at, 1);
-        left -= 1;
+    for _ in 0..n {
+        send_next(m, output, source, at)?;
+        at = addresses::plus(at, 1);
     }
-    Sent {
-        now: x,
-        count: sent,
-    }
+    Ok(())
 }

@@ -2,57 +2,35 @@
 ghost use Rattle.std.specs.Prelude.{◌≡◌, ltb};
 ghost use Rattle.rules.specs.Machine.{◌also◌};
 ghost use Rattle.rules.specs.Sound.{in_pad, start_rule};
-ghost use Rattle.machine.specs.Meaning.{◌&◌, Gives, IsPad, IsVram, Journal, Map, Pad, Ring, SeenImage, SeenVram};
+ghost use Rattle.machine.specs.Meaning.{Does};
 ghost use Rattle.operand.specs.Meaning.{cell_of};
 
-use machine::answers::Why;
+use machine::answers::{Why, need};
 use machine::cells;
-use machine::state::Now;
+use machine::memory::Memory;
+use machine::state::Machine;
 use operand::places::Place;
-
-// The state, and the source flag.
-#[derive(Clone, Copy)]
-pub struct Started {
-    pub now: Now,
-    pub source: bool,
-}
+use operand::targets::read_target;
+use operand::values;
 
 // A function that starts a list, with its address in the pad.
+#[tactic(auto, using(machine::proofs::Laws::testing))]
 fn starts(place: Place, f: u16) -> bool
     ensures { result ≡ (in_pad (cell_of place) also ltb f 2) }
 {
-    match place {
-        Place::Cpu(_) => f < 2,
-        Place::Vdp(_) => false,
-    }
+    matches!(place, Place::Cpu(_)) && f < 2
 }
 
-// The list's address is read whole before it is stored.
-pub fn start(
-    image: &[u8],
-    map: &mut [u8],
-    pad: &mut [u8],
-    vram: &[u8],
-    journal: &mut [u32],
-    ring: &mut [usize],
-    m: Now,
-    imm: bool,
-    wide: bool,
-) -> Started
-    requires { IsPad pad.old × IsVram vram.now }
-    ensures { Gives result.source (start_rule imm wide) (SeenImage image & Map map & Pad pad & SeenVram vram & Journal journal & Ring ring) m result.now }
+// The source flag. The list's address is read whole before it is stored.
+#[tactic(auto, using(machine::proofs::Laws::steps), unfolding(rules::specs::Sound::start_rule, operand::specs::Meaning::read_target))]
+pub fn start(m: &mut Machine<'_>, imm: bool, wide: bool) -> Result<bool, Why>
+    ensures { Does (start_rule imm wide) m result }
 {
-    let target = operand::targets::read_target(image, map, pad, vram, journal, ring, m, wide);
-    let read = target.now;
-    let place = target.place;
-    let f = operand::values::source(image, map, pad, vram, journal, ring, read, imm, wide);
-    let sound = machine::state::need(f, starts(place, f.word), Why::NeedsHost);
-    let at = operand::places::offset_of(place) as usize;
-    let a = machine::pad::peek_pad_word(pad, sound, at);
-    let moved = machine::pad::poke_pad_word(pad, journal, ring, a, cells::LIST, a.word);
-    let now = machine::pad::poke_pad(pad, journal, ring, moved, cells::COUNT, 1);
-    Started {
-        now,
-        source: f.word == 1,
-    }
+    let place = read_target(m, wide)?.place;
+    let f = values::source(m, imm, wide)?;
+    need(starts(place, f), Why::NeedsHost)?;
+    let a = m.load_word(Memory::Cpu, place.at() as usize)?;
+    m.store_word(Memory::Cpu, cells::LIST, a)?;
+    m.store(Memory::Cpu, cells::COUNT, 1)?;
+    Ok(f == 1)
 }

@@ -1,132 +1,84 @@
 // A tick past its mark: the count goes down, and the block that is then due is sent.
 ghost use Rattle.rules.specs.Sound;
 ghost use Rattle.rules.specs.Sound.{due_block, count_down, tick_rule};
-ghost use Rattle.machine.specs.Meaning.{◌&◌, Does, IsPad, IsVram, Journal, Map, Pad, Ring, SeenImage, SeenVram};
-ghost use Rattle.sound.specs.Meaning.{Ticks, room_in};
+ghost use Rattle.machine.specs.Meaning.{Does};
+ghost use Rattle.sound.specs.Meaning;
+ghost use Rattle.sound.specs.Meaning.{Plays, room_left, due_of};
 
+use crate::block::Due;
+use crate::list::Output;
 use crate::{block, list};
+use machine::answers::Why;
 use machine::cells;
-use machine::state::Now;
+use machine::memory::Memory;
+use machine::state::Machine;
 use operand::stacks;
 
-// What a tick leaves: the state, the source flag, and how many bytes were sent.
-#[derive(Clone, Copy)]
-pub struct Ticked {
-    pub now: Now,
-    pub source: bool,
-    pub sent: usize,
-}
-
 // A block in GROM is read between a push and a pop of pc.
-fn opened(pad: &mut [u8], journal: &mut [u32], ring: &mut [usize], m: Now, source: bool) -> Now
-    requires { IsPad pad.old }
-    ensures { Does (Sound.opened source) (Pad pad & Journal journal & Ring ring) m result }
+#[tactic(auto, using(machine::proofs::Laws::choosing), unfolding(rules::specs::Sound::opened))]
+fn opened(m: &mut Machine<'_>, source: bool) -> Result<(), Why>
+    ensures { Does (Sound.opened source) m result }
 {
-    if source {
-        return m;
-    }
-    stacks::push_pc(pad, journal, ring, m)
+    if source { Ok(()) } else { stacks::push_pc(m) }
 }
 
-fn closed(pad: &mut [u8], journal: &mut [u32], ring: &mut [usize], m: Now, source: bool) -> Now
-    requires { IsPad pad.old }
-    ensures { Does (Sound.closed source) (Pad pad & Journal journal & Ring ring) m result }
+#[tactic(auto, using(machine::proofs::Laws::choosing), unfolding(rules::specs::Sound::closed))]
+fn closed(m: &mut Machine<'_>, source: bool) -> Result<(), Why>
+    ensures { Does (Sound.closed source) m result }
 {
-    if source {
-        return m;
-    }
-    stacks::pop_pc(pad, journal, ring, m)
+    if source { Ok(()) } else { stacks::pop_pc(m) }
+}
+
+// After a block: where the next one is and when it is due are stored, pc is popped if it was pushed, and the flag is the next one's source.
+#[tactic(auto, using(machine::proofs::Laws::steps), unfolding(crate::specs::Meaning::book))]
+fn book(m: &mut Machine<'_>, source: bool, due: Due) -> Result<bool, Why>
+    ensures { Does (Meaning.book source (due_of due)) m result }
+{
+    m.store_word(Memory::Cpu, cells::LIST, due.list)?;
+    m.store(Memory::Cpu, cells::COUNT, due.count)?;
+    closed(m, source)?;
+    Ok(due.source)
 }
 
 // The block at the list's address, and where and when the next one is due.
-fn due_block(
-    image: &[u8],
-    map: &mut [u8],
-    pad: &mut [u8],
-    vram: &[u8],
-    journal: &mut [u32],
-    ring: &mut [usize],
-    output: &mut [u8],
-    m: Now,
-    source: bool,
-) -> Ticked
-    requires { IsPad pad.old × IsVram vram.now }
-    ensures { Ticks (due_block (room_in output) source) (SeenImage image & Map map & Pad pad & SeenVram vram & Journal journal & Ring ring) output m result }
+#[tactic(auto, using(crate::proofs::Laws::playing), unfolding(rules::specs::Sound::due_block))]
+fn due_block(m: &mut Machine<'_>, output: &mut Output<'_>, source: bool) -> Result<bool, Why>
+    ensures { Plays (due_block (room_left output) source) m output result }
 {
-    let a = machine::pad::peek_pad_word(pad, m, cells::LIST);
-    let open = opened(pad, journal, ring, a, source);
-    let n = list::list_byte(image, map, vram, open, source, a.word);
-    let d = block::block(image, map, vram, output, n, source, a.word, n.byte);
-    let moved = machine::pad::poke_pad_word(pad, journal, ring, d.now, cells::LIST, d.list);
-    let counted = machine::pad::poke_pad(pad, journal, ring, moved, cells::COUNT, d.count);
-    let now = closed(pad, journal, ring, counted, source);
-    Ticked {
-        now,
-        source: d.source,
-        sent: d.sent,
-    }
+    let a = m.load_word(Memory::Cpu, cells::LIST)?;
+    opened(m, source)?;
+    let n = list::list_byte(m, source, a)?;
+    let due = block::block(m, output, source, a, n)?;
+    book(m, source, due)
 }
 
-// n is the count that is left.
+// The new count, n, is stored; at 0 a block is due.
+#[tactic(auto, using(crate::proofs::Laws::playing), unfolding(rules::specs::Sound::count_down))]
 fn count_down(
-    image: &[u8],
-    map: &mut [u8],
-    pad: &mut [u8],
-    vram: &[u8],
-    journal: &mut [u32],
-    ring: &mut [usize],
-    output: &mut [u8],
-    m: Now,
+    m: &mut Machine<'_>,
+    output: &mut Output<'_>,
     source: bool,
     n: u8,
-) -> Ticked
-    requires { IsPad pad.old × IsVram vram.now }
-    ensures { Ticks (count_down (room_in output) source n) (SeenImage image & Map map & Pad pad & SeenVram vram & Journal journal & Ring ring) output m result }
+) -> Result<bool, Why>
+    ensures { Plays (count_down (room_left output) source n) m output result }
 {
-    let now = machine::pad::poke_pad(pad, journal, ring, m, cells::COUNT, n);
+    m.store(Memory::Cpu, cells::COUNT, n)?;
     if n == 0 {
-        return due_block(image, map, pad, vram, journal, ring, output, now, source);
-    }
-    Ticked {
-        now,
-        source,
-        sent: 0,
+        due_block(m, output, source)
+    } else {
+        Ok(source)
     }
 }
 
-// On a count of 0 no more is done.
-pub fn tick(
-    image: &[u8],
-    map: &mut [u8],
-    pad: &mut [u8],
-    vram: &[u8],
-    journal: &mut [u32],
-    ring: &mut [usize],
-    output: &mut [u8],
-    m: Now,
-    source: bool,
-) -> Ticked
-    requires { IsPad pad.old × IsVram vram.now }
-    ensures { Ticks (tick_rule (room_in output) source) (SeenImage image & Map map & Pad pad & SeenVram vram & Journal journal & Ring ring) output m result }
+// The source flag that it leaves. On a count of 0 no more is done.
+#[tactic(auto, using(crate::proofs::Laws::playing), unfolding(rules::specs::Sound::tick_rule))]
+pub fn tick(m: &mut Machine<'_>, output: &mut Output<'_>, source: bool) -> Result<bool, Why>
+    ensures { Plays (tick_rule (room_left output) source) m output result }
 {
-    let c = machine::pad::peek_pad(pad, m, cells::COUNT);
-    if c.byte == 0 {
-        return Ticked {
-            now: c,
-            source,
-            sent: 0,
-        };
+    let count = m.load(Memory::Cpu, cells::COUNT)?;
+    if count == 0 {
+        Ok(source)
+    } else {
+        count_down(m, output, source, count - 1)
     }
-    count_down(
-        image,
-        map,
-        pad,
-        vram,
-        journal,
-        ring,
-        output,
-        c,
-        source,
-        c.byte - 1,
-    )
 }

@@ -1,7 +1,5 @@
 -- What is answered is the rules' own, and that is the true one: by item 7's theorem, of the steps that demand 3 keeps.
-use mathlib.Core.Path.{◌≡◌, ◌∙◌, ap, sym, subst}
-use mathlib.Core.List.{List}
-use Prim.Native.Nat.{ℕ}
+use Rattle.std.proofs.Common.{◌≡◌, ◌∙◌, ap, sym, subst, List, ℕ}
 use Rattle.rules.specs.Machine.{Kind, State}
 use Rattle.rules.specs.Journal.{kind_number}
 use Rattle.rules.specs.Demands.{Good}

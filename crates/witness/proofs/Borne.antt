@@ -1,10 +1,5 @@
 -- Each contract of bench bears its demand: by the theorems of bench, of what the call returned.
-use mathlib.Core.Path.{◌≡◌, refl, ◌∙◌, ap, sym, subst}
-use mathlib.Core.Bool.{Bool, true, false}
-use mathlib.Core.List.{List, [], ◌++◌}
-use Prim.Native.Nat.{ℕ, zero, suc, ◌<◌}
-use native.Mathlib.Omega.{arith}
-use lib.ListN.{length, drop, replicate}
+use Rattle.std.proofs.Common.{◌≡◌, refl, ◌∙◌, ap, sym, subst, Bool, true, false, List, [], ◌++◌, ℕ, zero, suc, ◌<◌, arith, length, drop, replicate}
 use Rattle.rules.specs.Machine.{pick, State, cells}
 use Rattle.rules.specs.Answers as answers
 use Rattle.rules.specs.Calls.{Way, instruction, tick, fits, Reply, done, refused, left, step, tick_sent, written, tick_output, sent_by, step_back, run}

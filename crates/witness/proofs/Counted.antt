@@ -1,12 +1,6 @@
 -- What a caller counts while it goes: by demand 3 of bench, of the calls made so far and of one more.
-use mathlib.Core.Path.{◌≡◌, refl, ◌∙◌, ap, ap₂, sym, subst}
-use mathlib.Core.Bool.{Bool, true, false}
-use mathlib.Core.List.{List, [], ◌∷◌, ◌++◌}
-use Prim.Native.Nat.{ℕ, zero, suc, ◌+◌, ◌-◌, ◌≤◌, ◌<◌}
-use lib.Dec.{eqb}
-use lib.ListN.{length, drop, length-drop, length-replicate}
-use borrow.Author.Tests.{ne_eqb}
-use native.Mathlib.Omega.{arith}
+use Rattle.std.proofs.Common.{◌≡◌, refl, ◌∙◌, ap, ap₂, sym, subst, Bool, true, false, List, [], ◌∷◌, ◌++◌, ℕ, zero, suc, ◌+◌, ◌-◌, ◌≤◌, ◌<◌, eqb, length, drop, length-drop, ne_eqb, arith}
+use Rattle.std.proofs.Math.ListN.{length-replicate}
 use Rattle.rules.specs.Machine.{pick, State}
 use Rattle.rules.specs.Calls.{Way, instruction, tick, Reply, done, refused, step, step_back, run}
 use Rattle.rules.specs.Demands.{Good, Accepted, Op, forth, aback, instructions, Past, past, tally, history, Demand3}
@@ -127,15 +121,16 @@ module _ {s₀ s : State} (ws : List Way) (n : ℕ) {l : ℕ} {x : Returned walk
   fewer_steps p q (suc a) z =
       rw (ne_eqb (suc a) 0 (λ y. omega arith)) (ap (λ (r : Reply). (tally s₀ aback s r h).steps) (refuses e (λ y. omega (arith, z, y))) ∙ u.steps)
 
-  pub behind_on : {m k : ℕ} → length ws ≡ k → n ≤ k → 0 < l → l ≤ n → m ≡ pick (eqb x.result.answer 0) (n - 1) n → Behind s₀ (oldest m ws) (l - 1) (leaves x)
+  pub behind_on : {m k r : ℕ} → r ≡ l - 1 → length ws ≡ k → n ≤ k → 0 < l → l ≤ n → m ≡ pick (eqb x.result.answer 0) (n - 1) n
+      → Behind s₀ (oldest m ws) r (leaves x)
   unfolding h
-  behind_on {m} q i p o y =
+  behind_on {m} z q i p o y =
       let a : Led s₀ (leaves x) = after_back e u.led in
       let same : past_by a ≡ tally s₀ aback s (step_back s) h = back_past x.result u.led.called in
       record {
         led = a;
         steps = ap (λ (z : Past). z.steps) same ∙ fewer_steps (omega arith) (omega (arith, q)) x.result.answer refl ∙ ap (λ (i : ℕ). oldest i ws) (sym y);
-        most = subst (λ (z : Past). z.kept ≤ l - 1) (sym same) (fewer_kept (step_back s) refl p);
+        most = rw z (subst (λ (z : Past). z.kept ≤ l - 1) (sym same) (fewer_kept (step_back s) refl p));
       }
 
 -- no more step-backs are left to make than steps are counted, and no more steps than there were

@@ -1,9 +1,6 @@
 -- 02, item 13, of the calls: two runs, each known by its contract alone, from one state over two images of one length that agree at every address which the rules
 -- read in the first of them.
-use mathlib.Core.Path.{◌≡◌, sym, subst}
-use mathlib.Core.List.{List}
-use Prim.Native.Nat.{ℕ}
-use lib.ListN.{length}
+use Rattle.std.proofs.Common.{◌≡◌, sym, subst, List, ℕ, length}
 use Rattle.rules.specs.Machine.{State}
 use Rattle.rules.specs.Calls.{Report, run}
 use Rattle.rules.specs.Reads.{run_reads}

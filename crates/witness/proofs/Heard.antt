@@ -1,10 +1,5 @@
 -- What a host in C hears is what bench's call tells: the report that its numbers make, read as a reply.
-use mathlib.Core.Path.{◌≡◌, refl, ◌∙◌, ap}
-use mathlib.Core.List.{List}
-use Prim.Native.Nat.{ℕ}
-use native.Mathlib.Omega.{arith}
-use lib.ListN.{length}
-use borrow.Author.Tests.{ne_eqb}
+use Rattle.std.proofs.Common.{◌≡◌, refl, ◌∙◌, ap, List, ℕ, arith, length, ne_eqb}
 use Rattle.rules.specs.Machine.{State}
 use Rattle.rules.specs.Answers.{Answer}
 use Rattle.rules.specs.Calls.{Way, instruction, tick, Reply, done, refused, answer, step, made, step_back, Report, run}

@@ -1,15 +1,7 @@
 -- 02, item 13, of the call with a map: "So a buyer can hold a dump's bad bytes against it". Two images of one length that agree wherever the map has a mark after a run over the
 -- first are graded alike: what the rules read is marked, and beyond the images there is nothing to differ.
-use mathlib.Core.Path.{◌≡◌, refl, ◌∙◌, sym}
-use mathlib.Core.Bool.{Bool, true, false}
-use mathlib.Core.List.{List, [], ◌∷◌}
-use Prim.Native.Nat.{ℕ, zero, suc, ◌≤◌, ◌<◌}
-use native.Mathlib.Nat.{not-suc-le-zero}
-use native.Mathlib.Omega.{arith}
-use lib.Dec.{eqb, ltb}
-use lib.ListN.{length, get_or, set, length-set}
-use lib.Seq.{get_or-set_same, get_or-set_other}
-use borrow.Author.Tests.{eq-eqb, eqb-true, eqb-false, ltb-true, ltb-false}
+use Rattle.std.proofs.Common.{◌≡◌, refl, ◌∙◌, sym, Bool, true, false, List, [], ◌∷◌, ℕ, zero, suc, ◌≤◌, ◌<◌, not-suc-le-zero, arith, eqb, ltb, length, get_or, set, length-set, get_or-set_same, get_or-set_other, eq-eqb, eqb-true, ltb-true, ltb-false}
+use borrow.Author.Tests.{eqb-false}
 use Rattle.rules.specs.Machine.{pick, State}
 use Rattle.rules.specs.Calls.{run}
 use Rattle.rules.specs.Reads.{run_reads, marked, mapped_run, map_left}

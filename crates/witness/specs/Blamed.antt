@@ -7,21 +7,20 @@ use Rattle.machine.specs.Meaning.{Lent}
 use Rattle.bench.specs.declared.at.At.{At}
 use Rattle.bench.specs.Meaning.{Returned, stands_at}
 use Rattle.bench.specs.Promised.{Said, past_of}
-use Rattle.culprit.specs.declared.trail.Wrote.{Wrote}
 use Rattle.culprit.specs.Culprit as culprit
 use Rattle.culprit.specs.Culprit.{True}
-use Rattle.culprit.specs.Meaning.{wrote_of}
+use Rattle.culprit.specs.Meaning.{Saying, wrote_of}
 use Rattle.export.specs.Meaning.{stands, Numbers}
 use Rattle.export.specs.Who.{numbers, numbers_of}
 use Rattle.witness.specs.Demanded.{Led}
 use Rattle.witness.specs.Hosted.{HostCalled}
 
 -- wherever the calls began
-abbrev pub Blames : Kind → ℕ → State → Wrote → Type 0
+abbrev pub Blames : Kind → ℕ → State → Saying → Type 0
 Blames k a s w = (s₀ : State) (l : Led s₀ s) → True k a s₀ (past_of s₀ l.said) s.mem (wrote_of w)
 
 -- after calls that were made from s on
-pub record BlamesAfter (k : Kind) (a : ℕ) (s : State) (x : Returned Wrote) : Type 0 where
+pub record BlamesAfter (k : Kind) (a : ℕ) (s : State) (x : Returned Saying) : Type 0 where
   pub at : At
   pub led : Led s (stands_at x at)
   pub is : True k a s (past_of s led.said) (stands_at x at).mem (wrote_of x.result)

@@ -1,5 +1,6 @@
 // The demands, held by the calls themselves: each function is a call of bench, or a few in a row, and what it ensures is a demand.
 // Nothing is known here of a call but its contract, so one that says less breaks this crate.
+// The parameters are those of the calls, of which the theorems speak.
 #![tactic(auto)]
 
 pub mod dumps;
@@ -128,12 +129,10 @@ pub fn take_back(
 {
     let mut here = at;
     let mut steps = n;
-    let mut left = n;
-    while 0 < left {
+    for _ in 0..n {
         let b = bench::walk::step_back(image, pad, vram, regs, journal, here);
         here = b.at;
         steps = fewer(steps, b.answer);
-        left = left - 1;
     }
     Kept { steps, at: here }
 }
@@ -151,14 +150,7 @@ pub fn run_and_back(
 ) -> Kept
     ensures { Meets (BackAgain instructions) (Image image & Groups at.writable & Pad pad & Vram vram & Regs regs & Journal journal) (forgetting at) result }
 {
-    let start = At {
-        pc: at.pc,
-        used: 0,
-        ring: at.ring,
-        place: at.place,
-        writable: at.writable,
-        source: at.source,
-    };
+    let start = At { used: 0, ..at };
     let r = bench::runs::run(image, pad, vram, regs, journal, start, n);
     let there = r.at;
     take_back(image, pad, vram, regs, journal, there, r.steps)
@@ -177,16 +169,11 @@ fn call(
 ) -> At
     ensures { LedOn (Image image & Groups at.writable & Pad pad & Vram vram & Regs regs & Journal journal) at result }
 {
-    if n == 0 {
-        let b = bench::walk::step_back(image, pad, vram, regs, journal, at);
-        return b.at;
+    match n {
+        0 => bench::walk::step_back(image, pad, vram, regs, journal, at).at,
+        1 => bench::ticks::tick(image, pad, vram, regs, journal, at, output).at,
+        _ => bench::runs::run(image, pad, vram, regs, journal, at, n - 1).at,
     }
-    if n == 1 {
-        let t = bench::ticks::tick(image, pad, vram, regs, journal, at, output);
-        return t.at;
-    }
-    let r = bench::runs::run(image, pad, vram, regs, journal, at, n - 1);
-    r.at
 }
 
 // Any sequence of calls, from an empty journal on. What the ticks send goes to one output, one over the other.
@@ -202,18 +189,9 @@ pub fn make_calls(
 ) -> At
     ensures { Meets Along (Image image & Groups at.writable & Pad pad & Vram vram & Regs regs & Journal journal) (forgetting at) result }
 {
-    let mut here = At {
-        pc: at.pc,
-        used: 0,
-        ring: at.ring,
-        place: at.place,
-        writable: at.writable,
-        source: at.source,
-    };
-    let mut i: usize = 0;
-    while i < calls.len() {
-        here = call(image, pad, vram, regs, journal, here, calls[i], output);
-        i = i + 1;
+    let mut here = At { used: 0, ..at };
+    for n in calls {
+        here = call(image, pad, vram, regs, journal, here, *n, output);
     }
     here
 }

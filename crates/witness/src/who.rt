@@ -1,11 +1,12 @@
 // Who wrote a cell: after any calls from an empty journal the reason is the true one.
-ghost use Rattle.machine.specs.Meaning.{◌&◌, Groups, Image, Journal, Pad, Regs, Vram};
-ghost use Rattle.culprit.specs.Meaning.{seen, kind_of};
+ghost use Rattle.machine.specs.Meaning.{◌&◌, kind_of, Groups, Image, Journal, Pad, Regs, Vram};
+ghost use Rattle.culprit.specs.Meaning.{seen};
 ghost use Rattle.witness.specs.Demanded.{Meets, forgetting};
 ghost use Rattle.witness.specs.Blamed.{Blames, BlamesAfter};
 
 use bench::at::At;
-use culprit::trail::{Cell, Wrote};
+use culprit::trail::Wrote;
+use machine::memory::Memory;
 
 // Of the machine as it stands.
 pub fn who_wrote(
@@ -15,7 +16,7 @@ pub fn who_wrote(
     regs: &[u8],
     journal: &[u32],
     at: At,
-    which: Cell,
+    which: Memory,
     cell: u16,
 ) -> Wrote
     ensures { Blames (kind_of which) cell (seen image pad vram regs journal at) result }
@@ -33,7 +34,7 @@ pub fn wrote_after(
     at: At,
     calls: &[u32],
     output: &mut [u8],
-    which: Cell,
+    which: Memory,
     cell: u16,
 ) -> Wrote
     ensures { Meets (BlamesAfter (kind_of which) cell) (Image image & Groups at.writable & Pad pad & Vram vram & Regs regs & Journal journal) (forgetting at) result }

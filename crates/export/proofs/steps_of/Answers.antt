@@ -1,5 +1,5 @@
 -- By the answer.
-use borrow.Author.Tests.{eq-eqb, ne_eqb}
+use Rattle.std.proofs.Common.{eq-eqb, ne_eqb}
 use Rattle.export.proofs.steps_of.Goals as goal
 
 pub returns-then-answer-eq0 : goal.returns-then-answer-eq0

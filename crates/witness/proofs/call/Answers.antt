@@ -2,11 +2,11 @@
 use Rattle.witness.proofs.Counted.{after_run, after_tick, after_back}
 use Rattle.witness.proofs.call.Goals as goal
 
-pub returns-then-n-eq0 : goal.returns-then-n-eq0
-returns-then-n-eq0 c = λ _ _ l. after_back (c.step_back-b.ensures _) l
+pub returns-in-0 : goal.returns-in-0
+returns-in-0 c = λ _ _ l. after_back (c.step_back.ensures _) l
 
-pub returns-then-n-eq1 : goal.returns-then-n-eq1
-returns-then-n-eq1 c = λ _ _ l. after_tick _ (c.tick-t.ensures _) l
+pub returns-in-1 : goal.returns-in-1
+returns-in-1 c = λ _ _ l. after_tick _ (c.tick.ensures _) l
 
-pub returns : goal.returns
-returns c = λ _ _ l. after_run _ (c.run-r.ensures _) l
+pub returns-in_default : goal.returns-in_default
+returns-in_default c = λ _ _ l. after_run _ (c.run.ensures _) l

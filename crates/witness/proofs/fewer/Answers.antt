@@ -1,6 +1,5 @@
 -- By the answer.
-use native.Mathlib.Omega.{arith}
-use borrow.Author.Tests.{eq-eqb, ne_eqb}
+use Rattle.std.proofs.Common.{arith, eq-eqb, ne_eqb}
 use Rattle.witness.proofs.fewer.Goals as goal
 
 pub overflow_sub-result : goal.overflow_sub-result

@@ -1,7 +1,6 @@
 -- The run has led behind its steps, and they are taken back.
-use mathlib.Core.Path.{refl}
-use native.Mathlib.Omega.{arith}
-use lib.ListN.{length-replicate}
+use Rattle.std.proofs.Common.{refl, arith}
+use Rattle.std.proofs.Math.ListN.{length-replicate}
 use Rattle.rules.specs.Demands.{instructions}
 use Rattle.witness.specs.Demanded.{forgetting}
 use Rattle.witness.proofs.Borne.{good_of}

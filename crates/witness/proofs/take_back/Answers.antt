@@ -1,36 +1,32 @@
-use mathlib.Core.Path.{refl, ◌∙◌, sym}
-use native.Mathlib.Omega.{arith}
+use Rattle.std.proofs.Common.{◌-◌, ◌<◌, refl, ◌∙◌, sym, arith, rules}
+use Rattle.std.proofs.Math.Nat.{sub-zero}
 use Rattle.witness.proofs.Counted.{behind_on, fewer_left, all_oldest, count_oldest, none_kept_lem, none_left}
-use borrow.Author.Rules.{rules}
 use Rattle.witness.proofs.take_back.Goals as goal
 
-pub loop-left-init : goal.loop-left-init
-loop-left-init c = (λ s₀ ws e b. rw (all_oldest ws _ e) b, refl, refl, refl, refl, refl, omega arith, omega arith)
+pub loop-init : goal.loop-init
+loop-init c = (λ s₀ ws e b. rw (all_oldest ws _ e, sub-zero) b, refl, omega arith, omega arith)
 
 pub fewer-steps-requires : goal.fewer-steps-requires
-fewer-steps-requires c = λ z. omega (arith, c.loop-left.invariant.6, c.loop-left-test.true)
+fewer-steps-requires c = λ z. omega arith
 
-pub loop-left-preserved : goal.loop-left-preserved
-loop-left-preserved c = (
-  λ s₀ ws e b.
-      behind_on ws _ (c.step_back-b.ensures _) (c.loop-left.invariant.0 s₀ ws e b) e c.loop-left.invariant.7 c.loop-left-test.true
-      c.loop-left.invariant.6 c.fewer-steps.ensures,
-  search rules,
-  search rules,
-  search rules,
-  search rules,
-  search rules,
-  (fewer_left c.step_back-b.result.answer c.fewer-steps.ensures c.loop-left.invariant.6).0,
-  omega (arith, (fewer_left c.step_back-b.result.answer c.fewer-steps.ensures c.loop-left.invariant.6).1, c.loop-left.invariant.7),
-)
+pub loop-preserved : goal.loop-preserved
+loop-preserved c =
+    let inv = c.loop.invariant in
+    let left : 0 < c.args.n - c.loop.counter = omega arith in
+    let kept = fewer_left c.step_back-b.result.answer c.fewer-steps.ensures inv.2 in (
+      λ s₀ ws e b. behind_on ws _ (c.step_back-b.ensures _) (inv.0 s₀ ws e b) (omega arith) e inv.3 left inv.2 c.fewer-steps.ensures,
+      search rules,
+      omega (arith, kept.0),
+      omega (arith, kept.1, inv.3),
+    )
 
 pub returns : goal.returns
 returns c =
-    let inv = c.loop-left.invariant in
+    let inv = c.loop.invariant in
     λ rest s₀ ws e b.
-    let count = count_oldest ws e inv.7 in
+    let count = count_oldest ws e inv.3 in
     record {
       count = count;
-      kept = none_kept_lem (inv.0 s₀ ws e b) (omega (arith, c.loop-left-test.false));
-      all = λ r. sym count ∙ none_left (inv.0 s₀ ws e b) (omega (arith, c.loop-left-test.false)) r;
+      kept = none_kept_lem (inv.0 s₀ ws e b) (omega arith);
+      all = λ r. sym count ∙ none_left (inv.0 s₀ ws e b) (omega arith) r;
     }

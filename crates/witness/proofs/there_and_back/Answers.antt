@@ -1,5 +1,5 @@
 -- A refused step has changed nothing; an accepted one is undone by the step back from where it led.
-use native.Mathlib.Omega.{arith}
+use Rattle.std.proofs.Common.{arith}
 use Rattle.witness.proofs.Borne.{good_of, home_refused, home_back}
 use Rattle.witness.proofs.there_and_back.Goals as goal
 

@@ -1,17 +1,18 @@
--- The destination and its value, the source, the status, the low half, then the quotient and the rest.
-use Rattle.rules.specs.Machine.{cpu, status}
-use Rattle.rules.specs.Rules.{poke}
-use Rattle.rules.specs.Operands.{standing}
+-- The operands read, then the rest of the rule.
+use Rattle.std.proofs.Common.{◌≡◌, refl, Bool, arith}
+use Rattle.rules.specs.Rules.{◌>>=◌}
+use Rattle.rules.specs.Operands.{Width, operand, value, source}
 use Rattle.rules.specs.Instructions.{div_rule}
-use Rattle.machine.proofs.Chain.{bind, seq, via, ends}
+use Rattle.machine.specs.Meaning.{State, run}
+use Rattle.machine.proofs.Laws as laws
+use Rattle.operand.specs.Meaning.{read_target}
+use Rattle.arith.specs.Meaning.{div_by}
 use Rattle.arith.proofs.products.div.Goals as goal
 
-pub low_half-requires : goal.low_half-requires
-low_half-requires c = c.read_target-target.ensures.0
+div_is : (imm : Bool) (w : Width) (s : State) → run (div_rule imm w) s ≡ run (operand w >>= (λ c. value w c >>= (λ upper. source imm w >>= (λ b. div_by w c upper b)))) s
+unfolding div_rule div_by
+div_is imm w s = refl
 
 pub returns : goal.returns
-unfolding div_rule
-returns c =
-    λ _. ends (c.read_target-target.ensures.2 _ _) (bind _ (c.source-b.ensures.1 _)
-    (seq (via (poke cpu status) c.div_status.ensures.0 (c.poke_pad-flagged.ensures _))
-    (bind _ (via (standing _) c.low_half.ensures (c.standing-lower.ensures.1 _)) (c.divided.ensures _))))
+unfolding read_target
+returns c = rw (div_is c.args.imm c.args.wide _) (grind (arith, laws.steps))

@@ -1,20 +1,17 @@
 -- Test by test.
-use mathlib.Core.Path.{◌∙◌, sym}
+use Rattle.std.proofs.Common.{◌∙◌, sym}
 use Rattle.rules.specs.Machine.{◌also◌}
 use Rattle.bench.proofs.fits.all_fit.Goals as goal
 
-pub returns-then-not-image_fits : goal.returns-then-not-image_fits
+pub returns-then-parts_fit : goal.returns-then-parts_fit
 unfolding ◌also◌
-returns-then-not-image_fits c = rw (sym c.image_fits.ensures ∙ c.if-not-image_fits.true)
+returns-then-parts_fit c =
+    rw (sym c.image_fits.ensures ∙ c.if-image_fits.true, sym c.parts_fit.ensures ∙ c.if-parts_fit.true) c.place_fits.ensures
 
-pub returns-then-not-parts_fit : goal.returns-then-not-parts_fit
+pub returns-else-parts_fit : goal.returns-else-parts_fit
 unfolding ◌also◌
-returns-then-not-parts_fit c = rw (sym c.image_fits.ensures ∙ c.if-not-image_fits.false, sym c.parts_fit.ensures ∙ c.if-not-parts_fit.true)
+returns-else-parts_fit c = rw (sym c.image_fits.ensures ∙ c.if-image_fits.true, c.if-parts_fit.false, sym c.parts_fit.ensures ∙ c.if-parts_fit.false)
 
-pub returns : goal.returns
+pub returns-else-image_fits : goal.returns-else-image_fits
 unfolding ◌also◌
-returns c =
-    rw (
-      sym c.image_fits.ensures ∙ c.if-not-image_fits.false,
-      sym c.parts_fit.ensures ∙ c.if-not-parts_fit.false,
-    ) c.place_fits.ensures
+returns-else-image_fits c = rw (c.if-image_fits.false, sym c.image_fits.ensures ∙ c.if-image_fits.false)

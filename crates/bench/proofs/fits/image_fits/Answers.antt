@@ -1,17 +1,18 @@
 -- By the three tests.
-use borrow.Author.Tests.{eq-eqb, ne_eqb, le-leb, lt-leb}
+use Rattle.std.proofs.Common.{eq-eqb, ne_eqb, le-leb}
+use borrow.Author.Tests.{lt-leb}
 use Rattle.rules.specs.Machine.{◌also◌}
 use Rattle.rules.specs.Calls.{image_fits}
 use Rattle.bench.proofs.fits.image_fits.Goals as goal
 
-pub returns-then-n-ne0 : goal.returns-then-n-ne0
+pub returns-then-n-ge8192 : goal.returns-then-n-ge8192
 unfolding image_fits ◌also◌
-returns-then-n-ne0 c = rw (ne_eqb _ _ c.if-n-ne0.true)
+returns-then-n-ge8192 c = rw (eq-eqb _ _ c.if-n-eq0.true, le-leb _ _ c.if-n-ge8192.true)
 
-pub returns-then-n-lt8192 : goal.returns-then-n-lt8192
+pub returns-else-n-ge8192 : goal.returns-else-n-ge8192
 unfolding image_fits ◌also◌
-returns-then-n-lt8192 c = rw (eq-eqb _ _ c.if-n-ne0.false, lt-leb _ _ c.if-n-lt8192.true)
+returns-else-n-ge8192 c = rw (eq-eqb _ _ c.if-n-eq0.true, lt-leb _ _ c.if-n-ge8192.false)
 
-pub returns : goal.returns
+pub returns-else-n-eq0 : goal.returns-else-n-eq0
 unfolding image_fits ◌also◌
-returns c = rw (eq-eqb _ _ c.if-n-ne0.false, le-leb _ _ c.if-n-lt8192.false)
+returns-else-n-eq0 c = rw (ne_eqb _ _ c.if-n-eq0.false)

@@ -1,5 +1,6 @@
 -- By the five tests.
-use borrow.Author.Tests.{eq-eqb, ne_eqb, le-leb, lt-leb}
+use Rattle.std.proofs.Common.{eq-eqb, ne_eqb, le-leb}
+use borrow.Author.Tests.{lt-leb}
 use Rattle.rules.specs.Machine.{◌also◌}
 use Rattle.rules.specs.Calls.{parts_fit}
 use Rattle.bench.proofs.fits.parts_fit.Goals as goal
@@ -17,12 +18,12 @@ unfolding parts_fit ◌also◌
 returns-then-regs-ne-REGISTERS c =
     rw (eq-eqb _ _ c.if-pad-ne-PAD_SIZE.false, eq-eqb _ _ c.if-vram-ne-VDP_REACH.false, ne_eqb _ _ c.if-regs-ne-REGISTERS.true)
 
-pub returns-then-journal-gt1048576 : goal.returns-then-journal-gt1048576
+pub returns-then-journal-le1048576 : goal.returns-then-journal-le1048576
 unfolding parts_fit ◌also◌
-returns-then-journal-gt1048576 c =
-    rw (eq-eqb _ _ c.if-pad-ne-PAD_SIZE.false, eq-eqb _ _ c.if-vram-ne-VDP_REACH.false, eq-eqb _ _ c.if-regs-ne-REGISTERS.false, lt-leb _ _ c.if-journal-gt1048576.true)
+returns-then-journal-le1048576 c =
+    rw (eq-eqb _ _ c.if-pad-ne-PAD_SIZE.false, eq-eqb _ _ c.if-vram-ne-VDP_REACH.false, eq-eqb _ _ c.if-regs-ne-REGISTERS.false, le-leb _ _ c.if-journal-le1048576.true)
 
-pub returns : goal.returns
+pub returns-else-journal-le1048576 : goal.returns-else-journal-le1048576
 unfolding parts_fit ◌also◌
-returns c =
-    rw (eq-eqb _ _ c.if-pad-ne-PAD_SIZE.false, eq-eqb _ _ c.if-vram-ne-VDP_REACH.false, eq-eqb _ _ c.if-regs-ne-REGISTERS.false, le-leb _ _ c.if-journal-gt1048576.false)
+returns-else-journal-le1048576 c =
+    rw (eq-eqb _ _ c.if-pad-ne-PAD_SIZE.false, eq-eqb _ _ c.if-vram-ne-VDP_REACH.false, eq-eqb _ _ c.if-regs-ne-REGISTERS.false, lt-leb _ _ c.if-journal-le1048576.false)

@@ -1,7 +1,5 @@
 -- The invariant: the run is under way, and the parts keep their lengths.
-use mathlib.Core.Path.{◌≡◌}
-use Prim.Native.Nat.{◌-◌}
-use lib.ListN.{length}
+use Rattle.std.proofs.Common.{◌≡◌, ◌-◌, length}
 use Rattle.rules.specs.Reads.{run_reads}
 use Rattle.bench.specs.Meaning.{state_at, marking}
 use Rattle.bench.proofs.Ahead.{Underway}
@@ -11,7 +9,4 @@ abbrev pub invariant-loop-done : goal.invariant-loop-done
 invariant-loop-done l =
     Underway l.n (state_at l.initial.image l.initial.pad l.initial.vram l.initial.regs l.initial.journal l.initial.here) l.done l.stores (state_at l.image l.pad l.vram l.regs l.journal l.here)
     × (marking (run_reads (l.n - l.done)) l.map (state_at l.image l.pad l.vram l.regs l.journal l.here) ≡ marking (run_reads l.n) l.initial.map (state_at l.initial.image l.initial.pad l.initial.vram l.initial.regs l.initial.journal l.initial.here))
-    × (length l.image ≡ length l.initial.image) × (length l.map ≡ length l.initial.map) × (length l.pad ≡ length l.initial.pad) × (length l.vram ≡ length l.initial.vram) × (length l.regs ≡ length l.initial.regs) × (length l.journal ≡ length l.initial.journal)
-
-abbrev pub decreases-loop-done : goal.decreases-loop-done
-decreases-loop-done l = l.n - l.done
+    × (length l.journal ≡ length l.initial.journal)

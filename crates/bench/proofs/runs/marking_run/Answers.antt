@@ -1,5 +1,5 @@
 -- Test 11 fails, or the run past it.
-use mathlib.Core.Path.{◌∙◌, sym}
+use Rattle.std.proofs.Common.{◌∙◌, sym}
 use Rattle.bench.proofs.Steps.{tested}
 use Rattle.bench.proofs.Ahead.{run_unfit, run_fits, marks_none}
 use Rattle.bench.proofs.runs.marking_run.Goals as goal

@@ -1,5 +1,5 @@
 -- Test 11 fails, or the tick past it.
-use mathlib.Core.Path.{◌∙◌, sym}
+use Rattle.std.proofs.Common.{◌∙◌, sym}
 use Rattle.rules.proofs.Tests.{both}
 use Rattle.bench.proofs.Links.{fitting}
 use Rattle.bench.proofs.Steps.{tested}

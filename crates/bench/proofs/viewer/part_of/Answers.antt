@@ -1,8 +1,6 @@
 -- By the two tests; the part's length is the end less the start.
-use mathlib.Core.Path.{◌≡◌}
-use Prim.Native.Nat.{◌+◌, ◌-◌}
-use native.Mathlib.Omega.{arith}
-use borrow.Author.Tests.{le-leb, lt-leb}
+use Rattle.std.proofs.Common.{◌≡◌, ◌+◌, ◌-◌, arith, le-leb}
+use borrow.Author.Tests.{lt-leb}
 use Rattle.bench.specs.Meaning.{part}
 use Rattle.bench.proofs.viewer.part_of.Goals as goal
 

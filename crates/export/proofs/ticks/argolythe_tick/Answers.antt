@@ -1,5 +1,5 @@
 -- The tick of `bench`, told in numbers as a step, with what it did to the output.
-use mathlib.Core.Path.{refl}
+use Rattle.std.proofs.Common.{refl}
 use Rattle.bench.proofs.Heard.{as_step}
 use Rattle.export.proofs.Chosen.{of_step}
 use Rattle.export.proofs.Numbers.{flag_told, heard_reply, heard_tick}

@@ -1,7 +1,7 @@
 -- From group 8 on no bit of a byte is left; below, the bit.
-use mathlib.Core.Path.{sym}
+use Rattle.std.proofs.Common.{sym, ◌∙◌, le-ltb}
 use Rattle.rules.proofs.Undo.{bit_beyond}
 use Rattle.machine.proofs.grom.writable.Goals as goal
 
-pub returns-then-g-ge8 : goal.returns-then-g-ge8
-returns-then-g-ge8 c = sym (bit_beyond _ _ c.ranges.groups.fits c.if-g-ge8.true)
+pub returns-else-g-lt8 : goal.returns-else-g-lt8
+returns-else-g-lt8 c = le-ltb _ _ c.if-g-lt8.false ∙ sym (bit_beyond _ _ c.ranges.groups.fits c.if-g-lt8.false)

@@ -1,6 +1,5 @@
 -- No word, or the top one: zeroed, and put back.
-use mathlib.Core.Path.{refl}
-use mathlib.Core.List.{[]}
+use Rattle.std.proofs.Common.{refl, []}
 use Rattle.machine.specs.Meaning.{unbooked}
 use Rattle.machine.proofs.Words.{undo_none, undone}
 use Rattle.machine.proofs.journal.undo_top.Goals as goal

@@ -7,6 +7,5 @@ use Rattle.number.proofs.coincidence.difference.Goals as goal
 pub returns : goal.returns
 unfolding difference
 returns c =
-    let at = c.wrapping_sub_u8 in
-    let around : at.result ≡ (c.args.s + 256 - c.args.d) % 256 = omega (arith, at.type_inv, at.ensures) in
+    let around : (c.args.s + (256 - c.args.d)) % 256 ≡ (c.args.s + 256 - c.args.d) % 256 = omega (arith, c.ranges.d) in
     held (record { sfits = c.signed.type_inv }) ∙ c.signed.ensures ∙ ap signed around

@@ -5,4 +5,4 @@ use Rattle.number.proofs.random.next_seed.Goals as goal
 
 pub returns : goal.returns
 unfolding next_seed
-returns c = omega (arith, c.wrapping_add_u16.ensures.value)
+returns c = omega arith

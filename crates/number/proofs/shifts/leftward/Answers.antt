@@ -1,6 +1,6 @@
 -- What the 32 bits lose the 16 bits lose too.
 use Rattle.rules.specs.Arithmetic.{leftward}
-use lib.Pow.{mod-mod-pow}
+use Rattle.std.proofs.Math.Pow.{mod-mod-pow}
 use Rattle.number.proofs.shifts.leftward.Goals as goal
 
 pub returns : goal.returns

@@ -1,5 +1,5 @@
 -- Each arm by the run of the list that begins where its own does: first the arms of one opcode, then those of several.
-use native.Mathlib.Omega.{arith}
+use Rattle.std.proofs.Common.{arith}
 use borrow.Author.Rules.{rules}
 use Rattle.opcode.proofs.Listed.{listed, wide, both, past}
 use Rattle.opcode.proofs.class.class_of.Goals as goal

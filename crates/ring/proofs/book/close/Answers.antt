@@ -1,8 +1,5 @@
 -- As it is in a plain journal; by the words that are left in a ring, and without the rest of a step that was laid over.
-use mathlib.Core.Path.{refl, ◌∙◌}
-use mathlib.Core.Bool.{false}
-use mathlib.Core.List.{[]}
-use native.Mathlib.Omega.{arith}
+use Rattle.std.proofs.Common.{◌∙◌, false, [], arith}
 use Rattle.rules.proofs.Tests.{denied, granted}
 use Rattle.ring.specs.Meaning.{alone}
 use Rattle.ring.proofs.Laying.{closed_plain, closed_free, closed_over}
@@ -15,11 +12,8 @@ pub returns-then-words-free : goal.returns-then-words-free
 returns-then-words-free c =
     rw (granted c.args.b.ring c.if-not-b.false) (closed_free _ _ _ _ (omega (arith, c.requires.0, c.if-words-free.true)) (omega (arith, c.well_formed.0)))
 
-pub forget_unmarked-requires : goal.forget_unmarked-requires
-forget_unmarked-requires c = (omega arith, refl, omega (arith, c.requires.1), omega arith)
-
 pub returns : goal.returns
 returns c =
-    rw (granted c.args.b.ring c.if-not-b.false) (c.forget_unmarked.ensures (alone [] 0 0 0 false)
+    rw (granted c.args.b.ring c.if-not-b.false) ((rw (granted c.args.b.ring c.if-not-b.false) at (c.forget_unmarked.ensures (alone [] 0 0 0 false)))
     ∙ closed_over _ _ _ _ _ _ (omega (arith, c.requires.0, c.if-words-free.false)) (omega (arith, c.if-words-free.false)) c.requires.0 c.requires.1 (omega
     (arith, c.well_formed.0)) c.further.ensures)

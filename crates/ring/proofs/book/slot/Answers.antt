@@ -1,6 +1,6 @@
 -- In a plain journal where it is; in a ring from its place on, or round.
+use Rattle.std.proofs.Common.{arith}
 use Rattle.ring.proofs.Turned.{slot_plain, slot_near, slot_far}
-use native.Mathlib.Omega.{arith}
 use Rattle.ring.proofs.book.slot.Goals as goal
 
 pub returns-then-not-ring : goal.returns-then-not-ring

@@ -1,7 +1,5 @@
 -- By the slot.
-use mathlib.Core.Path.{◌∙◌, ap, sym}
-use Prim.Native.Nat.{ℕ}
-use lib.ListN.{get_or}
+use Rattle.std.proofs.Common.{◌∙◌, ap, sym, ℕ, get_or}
 use Rattle.ring.proofs.Turned.{turned_get_or}
 use Rattle.ring.proofs.book.word_at.Goals as goal
 

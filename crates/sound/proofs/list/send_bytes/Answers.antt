@@ -1,25 +1,14 @@
-use mathlib.Core.Path.{refl}
-use borrow.Author.Rules.{rules}
-use Rattle.sound.proofs.Chain.{whole, turns, ends, over, still}
-use Rattle.sound.proofs.Laws.{more, no_more, none_yet, one_less}
+-- One byte more is in use, so there is room for one less.
+use Rattle.std.proofs.Common.{◌≡◌, ◌-◌, length, arith}
+use Rattle.rules.specs.Sound.{send_bytes}
+use Rattle.machine.proofs.Laws.{looping}
+use Rattle.sound.proofs.Laws.{playing, stays_on}
 use Rattle.sound.proofs.list.send_bytes.Goals as goal
 
-pub loop-left-init : goal.loop-left-init
-loop-left-init c = (λ _. whole (none_yet _ _ _ _), refl, refl)
-
-pub returns-then-next-ne0 : goal.returns-then-next-ne0
-returns-then-next-ne0 c =
-    λ _. ends (turns (c.loop-left.invariant.0 _) (more _ _ _ c.loop-left-test.true refl refl refl)
-    (c.send_next-next.ensures.1 _)) (still c.if-next-ne0.true)
-
-pub loop-left-preserved : goal.loop-left-preserved
-loop-left-preserved c = (
-  λ _. turns (c.loop-left.invariant.0 _)
-      (more _ _ _ c.loop-left-test.true (one_less _ c.send_next-next.auto.output (c.send_next-next.ensures.0 c.if-next-ne0.false))
-      c.plus-at.ensures refl) (c.send_next-next.ensures.1 _),
-  search rules,
-  search rules,
-)
-
-pub returns : goal.returns
-returns c = λ _. over (c.loop-left.invariant.0 _) (no_more _ _ _ c.loop-left-test.false)
+pub loop-preserved : goal.loop-preserved
+unfolding send_bytes
+loop-preserved c =
+    let stays = c.in_ok-send_next.ensures.does.2 in
+    let room : length c.send_next.new.output.bytes.now - c.send_next.new.output.sent ≡ length c.loop.output.bytes.now - c.loop.output.sent - 1 =
+    omega (arith, c.in_ok-send_next.ensures.one, stays.long) in
+    rw room (grind (arith, playing, looping, stays_on))

@@ -1,18 +1,17 @@
--- The address, the push, the size, the block, the stores and the pop; only the block sends.
-use mathlib.Core.Path.{refl}
-use Rattle.rules.specs.Sound.{due_block}
-use Rattle.rules.proofs.Sending.{quiet_byte, quiet_word, quiet_poke, quiet_poke_word, quiet_opened, quiet_closed}
-use Rattle.sound.proofs.Chain.{bind, seq, quietly, gives}
+-- The list opened and its block played, then the rest of the rule.
+use Rattle.std.proofs.Common.{◌≡◌, refl, ℕ, arith}
+use Rattle.rules.specs.Machine.{cpu, list_cell}
+use Rattle.rules.specs.Rules.{◌>>=◌, ◌>>◌, peek_word}
+use Rattle.rules.specs.Sound.{Source, list_byte, block, opened, due_block}
+use Rattle.machine.specs.Meaning.{State}
+use Rattle.sound.specs.Meaning.{Written, plays, book}
+use Rattle.sound.proofs.Laws.{playing}
 use Rattle.sound.proofs.tick.due_block.Goals as goal
 
-pub block-d-requires : goal.block-d-requires
-block-d-requires c = c.requires.1
+due_is : (left : ℕ) (v : Source) (s : State) (o : Written)
+    → plays (due_block left v) s o ≡ plays (peek_word cpu list_cell >>= (λ a. opened v >> (list_byte v a >>= (λ n. block left v a n >>= book v)))) s o
+unfolding due_block book
+due_is left v s o = refl
 
 pub returns : goal.returns
-unfolding due_block
-returns c =
-    λ _.
-    bind _ (quietly (quiet_word _) (c.peek_pad_word-a.ensures _)) (seq (quietly (quiet_opened _) (c.opened-open.ensures _))
-    (bind _ (quietly (quiet_byte _ _) (c.list_byte-n.ensures _)) (bind _ (c.block-d.ensures _)
-    (seq (quietly (quiet_poke_word _ _ _) (c.poke_pad_word-moved.ensures _)) (seq (quietly (quiet_poke _ _ _) (c.poke_pad-counted.ensures _))
-    (seq (quietly (quiet_closed _) (c.closed-now.ensures _)) (gives refl)))))))
+returns c = rw (due_is _ c.args.source _ _) (grind (arith, playing))

@@ -1,7 +1,0 @@
--- The store of whichever memory, in the machine that has the rest beside it.
-use mathlib.Core.List.{[]}
-use Rattle.machine.specs.Meaning.{unbooked}
-use Rattle.machine.proofs.vdp.poke_vdp.Goals as goal
-
-pub returns : goal.returns
-returns c = λ w. c.store.ensures (unbooked w.rest.image w.rest.groups w.rest.pad [] w.rest.regs [] w.older w.place) w.rest.map

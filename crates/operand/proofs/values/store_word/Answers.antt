@@ -1,8 +1,0 @@
--- By the place: its memory is stored to.
-use Rattle.operand.proofs.values.store_word.Goals as goal
-
-pub returns-in-Cpu : goal.returns-in-Cpu
-returns-in-Cpu c = λ _. rw c.in-Cpu.is (c.poke_pad_word.ensures _)
-
-pub returns-in-Vdp : goal.returns-in-Vdp
-returns-in-Vdp c = λ _. rw c.in-Vdp.is (c.poke_vdp_word.ensures _)
