@@ -5,7 +5,7 @@ use bench::at::At;
 use bench::runs::Report;
 use bench::viewer::Memory;
 use bench::walk::Reply;
-use bench::{runs, viewer, walk};
+use bench::{answers, runs, viewer, walk};
 use desk::state::{Cells, first};
 use std::io;
 use std::io::Write;
@@ -109,14 +109,18 @@ fn show_place<W: Write>(output: &mut W, machine: &Machine) -> io::Result<()> {
 fn walk<W: Write>(output: &mut W, image: [u8; 8192]) -> io::Result<()> {
     let mut machine = Machine::new(image);
     let run = machine.run(100);
-    show_answer(output, run.answer, run.steps, run.stores, run.address)?;
+    let answer = answers::number(run.refusal);
+    let address = answers::address(run.refusal);
+    show_answer(output, answer, run.steps, run.stores, address)?;
     show_place(output, &machine)?;
     for _ in 0..run.steps {
         machine.step_back();
         show_place(output, &machine)?;
     }
     let last = machine.step_back();
-    show_answer(output, last.answer, 0, last.stores, last.address)
+    let answer = answers::number(last.refusal);
+    let address = answers::address(last.refusal);
+    show_answer(output, answer, 0, last.stores, address)
 }
 
 fn main(rt: HostRuntime) -> io::Result<()> {

@@ -9,8 +9,7 @@ use Rattle.rules.proofs.Replies.{demand2}
 use Rattle.rules.proofs.Fits.{fits_used, fits_words}
 use Rattle.rules.proofs.History.{stepped, fits_after}
 use Rattle.bench.specs.declared.at.At.{At}
-use Rattle.bench.specs.declared.walk.Reply as walk
-use Rattle.bench.specs.declared.runs.Report as runs
+use Rattle.bench.specs.Numbers as numbers
 use Rattle.bench.specs.Meaning.{state_at, Returned, returned, leaves, told, marking, settling, stepping, reported, no_steps, Tells}
 use Rattle.bench.proofs.Replies.{accepts, refuses, counts}
 use Rattle.rules.proofs.Reading.{marked_append}
@@ -48,7 +47,7 @@ sets_out {n} {i} {p} {v} {g} j {at} f l w d a b c =
 
 -- ---- one step more, which returned x
 
-module _ {n : ℕ} {s₀ : State} {k c : ℕ} {s : State} {x : Returned walk.Reply} (u : Underway n s₀ k c s) (e : Tells told (settling instruction) s x) where
+module _ {n : ℕ} {s₀ : State} {k c : ℕ} {s : State} {x : Returned numbers.Reply} (u : Underway n s₀ k c s) (e : Tells told (settling instruction) s x) where
   call : Tells told (stepping instruction) s x
   call = step_fits instruction (sym u.fit) refl e
 
@@ -88,7 +87,7 @@ module _ {n : ℕ} {s₀ : State} {k c : ℕ} {s : State} {x : Returned walk.Rep
 
 -- ---- what a run reads, of which the map that was z₀ has become z
 
-module _ {n : ℕ} {s₀ : State} {k c : ℕ} {s : State} {x : Returned walk.Reply} (z : List ℕ) {y : List ℕ} (u : Underway n s₀ k c s)
+module _ {n : ℕ} {s₀ : State} {k c : ℕ} {s : State} {x : Returned numbers.Reply} (z : List ℕ) {y : List ℕ} (u : Underway n s₀ k c s)
     (e : Tells told (settling instruction) s x) (r : y ≡ marking attempt_reads z s) where
   -- the step was done: what it read is marked, and the rest is left
   pub marks_on : k < n → x.result.answer ≡ 0 → marking (run_reads (n - (k + 1))) y (leaves x) ≡ marking (run_reads (n - k)) z s
@@ -126,7 +125,7 @@ marks_none (suc n) s z h = rw h
 
 -- ---- how it ends
 
-pub stops : {n : ℕ} {s₀ : State} {k c : ℕ} {s : State} {i p v g j : List ℕ} {r : walk.Reply} → Underway n s₀ k c s
+pub stops : {n : ℕ} {s₀ : State} {k c : ℕ} {s : State} {i p v g j : List ℕ} {r : numbers.Reply} → Underway n s₀ k c s
     → Tells told (settling instruction) s (returned i p v g j r) → k < n → (r.answer ≡ 0 → ⊥)
     → Tells reported (steps n) s₀ (returned i p v g j (record { answer = r.answer; address = r.address; steps = k; stores = c; at = r.at }))
 stops u e l h = record { is = breaks_off u e l h }
@@ -145,7 +144,7 @@ pub run_unfit : (n : ℕ) {i p v g j : List ℕ} {at : At} {t : Bool} → t ≡ 
 unfolding run
 run_unfit n e h = record { is = rw (sym e ∙ h) }
 
-pub run_fits : (n : ℕ) {s : State} {x : Returned runs.Report} {t : Bool} → t ≡ fits s.mem → t ≡ true → Tells reported (steps n) s x → Tells reported (run n) s x
+pub run_fits : (n : ℕ) {s : State} {x : Returned numbers.Report} {t : Bool} → t ≡ fits s.mem → t ≡ true → Tells reported (steps n) s x → Tells reported (run n) s x
 unfolding run
 run_fits n e h k = record { is = rw (sym e ∙ h) k.is }
 
@@ -160,7 +159,7 @@ module _ (n : ℕ) (i p v g j : List ℕ) (at : At) (z : List ℕ) where
   unfolding map_left
   map_kept h = rw (ne_eqb (length z) (length i) h)
 
-  pub map_fits_lem : {x : Returned runs.Report} → length z ≡ length i → Tells reported (run n) (state_at i p v g j at) x → Tells reported (mapped_run n z) (state_at i p v g j at) x
+  pub map_fits_lem : {x : Returned numbers.Report} → length z ≡ length i → Tells reported (run n) (state_at i p v g j at) x → Tells reported (mapped_run n z) (state_at i p v g j at) x
   unfolding mapped_run
   map_fits_lem h k = record { is = rw (eq-eqb (length z) (length i) h) k.is }
 

@@ -14,12 +14,14 @@ use Rattle.sound.specs.Meaning.{Written, laid, writing}
 use Rattle.sound.proofs.Laws.{laid_first}
 use Rattle.sound.specs.declared.list.Output.{Output}
 use Rattle.bench.specs.declared.at.At.{At}
-use Rattle.bench.specs.declared.walk.Reply as walk
-use Rattle.bench.specs.declared.ticks.Ticked.{Ticked}
+use Rattle.bench.specs.declared.ticks.Ticked as ticks
+use Rattle.bench.specs.Numbers as numbers
+use Rattle.bench.specs.Numbers.{Ticked}
 use Rattle.bench.specs.Meaning.{state_at, Returned, returned, Outcome, told, refusal, settling, stepping}
 use Rattle.bench.specs.Making.{Stands, trying_tick, sends_from, Adds, state_in}
 use Rattle.bench.specs.Meaning.{Heard, replied, heard, heard_as, fit_ticking, ticking, Tells}
 use Rattle.bench.proofs.Beginning.{said, tick_map, as_tick, sent_is}
+use Rattle.bench.proofs.Refusals.{ticks_in, same_ticked}
 use Rattle.bench.proofs.Replies.{same_told}
 use Rattle.bench.proofs.Steps.{step_unfit, step_fits}
 
@@ -30,7 +32,7 @@ same_heard : {a b : Outcome} {m n : ℕ} {o p : List ℕ} → a ≡ b → m ≡ 
 same_heard e f g = rw (e, f, g)
 
 -- a step's reply, and what was sent
-abbrev with_sent : Returned walk.Reply → ℕ → Returned Ticked
+abbrev with_sent : Returned numbers.Reply → ℕ → Returned Ticked
 with_sent x n = returned x.image x.pad x.vram x.regs x.journal (heard_as x.result n)
 
 -- ---- what was sent
@@ -50,7 +52,7 @@ as_sent bs {o} {p} z h =
 
 -- ---- done, or refused
 
-module _ (o : List ℕ) (s : State) {x : Returned walk.Reply} (e : Tells told (settling (tick (length o))) s x) where
+module _ (o : List ℕ) (s : State) {x : Returned numbers.Reply} (e : Tells told (settling (tick (length o))) s x) where
   pub tick_done : {v : Source} {pc n : ℕ} {m : Mem} {q : List ℕ} → attempt (tick (length o)) s ≡ got v pc m → Sent (tick_sent (length o) s) n o q
       → Tells (heard q) (fit_ticking o) s (with_sent x n)
   unfolding fit_step
@@ -74,7 +76,7 @@ module _ {at : At} {m : Machine} (b : Stands at m) (t : Result Bool Why) (n : Ma
   pub tick_ends : ending (attempt (tick way) (state_in m at)) (tick_map b way) ≡ left t (state n)
   tick_ends = as_tick b way (omega (arith, z)) e
 
-  module _ (h : Adds (sends_from (length o.bytes.now - o.sent) at.source (state m)) o p) {x : Returned walk.Reply} (k : Tells told (settling (tick way)) (state_in m at) x) where
+  module _ (h : Adds (sends_from (length o.bytes.now - o.sent) at.source (state m)) o p) {x : Returned numbers.Reply} (k : Tells told (settling (tick way)) (state_in m at) x) where
     heard_sent : Sent (tick_sent way (state_in m at)) p.sent o.bytes.now p.bytes.now
     heard_sent = subst (λ (bs : List ℕ). Sent bs p.sent o.bytes.now p.bytes.now) (sent_is b way (omega (arith, z))) (as_sent _ z h)
 
@@ -115,8 +117,9 @@ module _ (o : List ℕ) {s : State} {q : List ℕ} {x : Returned Ticked} (e : Te
   as_step = record { is = ap (λ (y : Heard). y.outcome) e.is }
 
 -- The contract determines what it speaks of: the result, every lent byte, and the output.
-pub tick_determined : (o : List ℕ) {s : State} {q r : List ℕ} {x y : Returned Ticked} → Tells (heard q) (ticking o) s x → Tells (heard r) (ticking o) s y → (x ≡ y) × (q ≡ r)
+pub tick_determined : (o : List ℕ) {s : State} {q r : List ℕ} {x y : Returned ticks.Ticked} → Tells (heard q) (ticking o) s (ticks_in x) → Tells (heard r) (ticking o) s (ticks_in y)
+    → (x ≡ y) × (q ≡ r)
 tick_determined o {s} {q} {r} {x} {y} e k =
-    let same : heard q x ≡ heard r y = e.is ∙ sym k.is in
-    let replies_same : replied x ≡ replied y = same_told (ap (λ (h : Heard). h.outcome) same) in
-    (ap₂ with_sent replies_same (ap (λ (h : Heard). h.sent) same), ap (λ (h : Heard). h.output) same)
+    let same : heard q (ticks_in x) ≡ heard r (ticks_in y) = e.is ∙ sym k.is in
+    let replies_same : replied (ticks_in x) ≡ replied (ticks_in y) = same_told (ap (λ (h : Heard). h.outcome) same) in
+    (same_ticked x y (ap₂ with_sent replies_same (ap (λ (h : Heard). h.sent) same)), ap (λ (h : Heard). h.output) same)

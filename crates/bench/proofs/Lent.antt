@@ -1,7 +1,7 @@
 -- What a machine hands back, by the slices that it was lent.
 use Rattle.std.proofs.Common.{◌≡◌, List, ℕ}
 use Rattle.rules.specs.Machine.{State}
-use Rattle.bench.specs.declared.ticks.Ticked.{Ticked}
+use Rattle.bench.specs.Numbers.{Ticked}
 use Rattle.bench.specs.Meaning.{returned, Returned, Tells, Heard, heard}
 
 pub back_as : {A B : Type 0} {say : Returned A → B} {f : State → B} {s : State} {r : A} {i p v g j i₁ p₁ v₁ g₁ j₁ : List ℕ}

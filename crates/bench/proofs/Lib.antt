@@ -5,6 +5,7 @@ pub mod Lending
 pub mod Lent
 pub mod Links
 pub mod Promises
+pub mod Refusals
 pub mod Replies
 pub mod Sequence
 pub mod Settling

@@ -11,7 +11,7 @@ use Rattle.ring.specs.declared.book.Book.{Book}
 use Rattle.ring.proofs.Turned.{length_turned}
 use Rattle.machine.specs.Meaning.{mem_of}
 use Rattle.bench.specs.declared.at.At.{At}
-use Rattle.bench.specs.declared.walk.Reply as walk
+use Rattle.bench.specs.Numbers as numbers
 use Rattle.bench.specs.Meaning.{book_at, rests, state_at, Fit, Returned, returned, outcome, replies, told, refusal, undoing, backing, Tells, part}
 
 -- ---- a step back
@@ -39,7 +39,7 @@ pub back_unfit : {i p v g j : List ℕ} {at : At} {t : Bool} → t ≡ fits (sta
 unfolding step_back replies
 back_unfit e h = record { is = rw (sym e ∙ h) }
 
-pub back_fits : {s : State} {x : Returned walk.Reply} {t : Bool} → t ≡ fits s.mem → t ≡ true → Tells told undoing s x → Tells told backing s x
+pub back_fits : {s : State} {x : Returned numbers.Reply} {t : Bool} → t ≡ fits s.mem → t ≡ true → Tells told undoing s x → Tells told backing s x
 unfolding step_back
 back_fits e h k = record { is = rw (sym e ∙ h) k.is }
 

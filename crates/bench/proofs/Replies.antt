@@ -5,7 +5,7 @@ use Rattle.rules.specs.Answers.{saying}
 use Rattle.rules.specs.Calls.{done, refused, answer, left}
 use Rattle.ring.proofs.Turned.{unturned, turned_back}
 use Rattle.bench.specs.declared.at.At.{At}
-use Rattle.bench.specs.declared.walk.Reply as walk
+use Rattle.bench.specs.Numbers as numbers
 use Rattle.bench.specs.Meaning.{Returned, returned, Outcome, replies, leaves, told, Tells}
 
 said_answer : (a d : ℕ) (s : State) → (answer (replies (saying a d) s)).number ≡ a
@@ -18,7 +18,7 @@ unfolding replies
 said_state zero d s = refl
 said_state (suc a) d s = rw (ne_eqb (suc a) 0 (λ e. omega arith))
 
-module _ {f : State → Outcome} {s : State} {x : Returned walk.Reply} (e : Tells told f s x) where
+module _ {f : State → Outcome} {s : State} {x : Returned numbers.Reply} (e : Tells told f s x) where
   pub says : (f s).reply ≡ replies (saying x.result.answer x.result.address) (leaves x)
   says = sym (ap (λ (o : Outcome). o.reply) e.is)
 
@@ -47,13 +47,13 @@ at_of s = record { pc = s.pc; used = s.mem.used; ring = s.mem.ring; place = s.me
 abbrev pub returned_of : {A : Type 0} → Mem → A → Returned A
 returned_of m r = returned m.image m.pad m.vram m.regs (unturned m.ring m.place m.journal) r
 
-made_of : ℕ → State → ℕ → ℕ → Returned walk.Reply
+made_of : ℕ → State → ℕ → ℕ → Returned numbers.Reply
 made_of a s d n = returned_of s.mem (record { answer = a; address = d; stores = n; at = at_of s })
 
-read : Outcome → Returned walk.Reply
+read : Outcome → Returned numbers.Reply
 read o = made_of (answer o.reply).number (left o.reply) o.address o.stores
 
-read_told : (x : Returned walk.Reply) → read (told x) ≡ x
+read_told : (x : Returned numbers.Reply) → read (told x) ≡ x
 unfolding read made_of
 read_told x =
     let a : ℕ = x.result.answer in
@@ -61,5 +61,5 @@ read_told x =
     ap₂ (λ (b : ℕ) (s : State). made_of b s d x.result.stores) (said_answer a d (leaves x)) (said_state a d (leaves x))
     ∙ ap (λ (j : List ℕ). returned x.image x.pad x.vram x.regs j x.result) (turned_back x.result.at.ring x.result.at.place x.journal)
 
-pub same_told : {x y : Returned walk.Reply} → told x ≡ told y → x ≡ y
+pub same_told : {x y : Returned numbers.Reply} → told x ≡ told y → x ≡ y
 same_told {x} {y} e = sym (read_told x) ∙ ap read e ∙ read_told y

@@ -13,8 +13,7 @@ use Rattle.rules.proofs.Named.{NamedReply, named_step}
 use Rattle.rules.proofs.Fits.{step_unfit}
 use Rattle.rules.proofs.Replies as replies-of
 use Rattle.rules.proofs.History as history-of
-use Rattle.bench.specs.declared.walk.Reply as walk
-use Rattle.bench.specs.declared.runs.Report as runs
+use Rattle.bench.specs.Numbers as numbers
 use Rattle.bench.specs.Meaning.{Returned, Outcome, replies, leaves, told, stepping, backing, reported, Tells}
 use Rattle.bench.specs.Promised.{Said, stepped, backed, ran, Called, no_call, then_step, then_tick, then_back, then_run}
 use Rattle.bench.specs.Promised.{Count, one_more, one_less, no_more, counts, count_of, forths, run_ops, ops, all_ops, past_of, Keeps}
@@ -54,7 +53,7 @@ tallies s₀ s o true a t h c d e z = e
 tallies s₀ s (forth w) false a t h c d e z = z
 tallies s₀ s aback false a t h c d e z = z
 
-call_plays : (s₀ : State) (o : Op) {f : State → Outcome} {s : State} {x : Returned walk.Reply} (c d : Count) → Tells told f s x → (f s).reply ≡ reply o s
+call_plays : (s₀ : State) (o : Op) {f : State → Outcome} {s : State} {x : Returned numbers.Reply} (c d : Count) → Tells told f s x → (f s).reply ≡ reply o s
     → ((h : Past) → length h.steps ≡ c.steps → length (tally s₀ o s (done (leaves x)) h).steps ≡ d.steps)
     → Plays s₀ s c.steps (o ∷ []) (leaves x) (pick (eqb x.result.answer 0) d c).steps
 unfolding replies
@@ -88,7 +87,7 @@ ends_play s₀ {s} m (cut {k} {a} {t} l h e) =
       keeps = λ q z. ap (λ (r : Reply). length (tally s₀ (forth instruction) u r q).steps) e ∙ z;
     }))
 
-run_plays : (n : ℕ) (s₀ : State) {s : State} {x : Returned runs.Report} (c : Count) → Tells reported (run n) s x
+run_plays : (n : ℕ) (s₀ : State) {s : State} {x : Returned numbers.Report} (c : Count) → Tells reported (run n) s x
     → Plays s₀ s c.steps (ops (ran x.result)) (reported x).end (counts (ran x.result) c).steps
 run_plays n s₀ {s} {x} c e = go (fits s.mem) refl
   where
@@ -122,7 +121,7 @@ played {s₀} (then_back {l} {x = x} h e) =
 played {s₀} (then_run {l} n h e) = on (played h) (run_plays n s₀ (count_of l) e)
 
 -- a step back more
-pub back_past : {s₀ s : State} {l : List Said} (r : walk.Reply) → Called s₀ l s → past_of s₀ (backed r ∷ l) ≡ tally s₀ aback s (step_back s) (past_of s₀ l)
+pub back_past : {s₀ s : State} {l : List Said} (r : numbers.Reply) → Called s₀ l s → past_of s₀ (backed r ∷ l) ≡ tally s₀ aback s (step_back s) (past_of s₀ l)
 back_past {s₀} {s} {l} r h =
     history_on s₀ (all_ops l) (aback ∷ []) s₀ (past [] 0) ∙ ap (λ (x : State). tally s₀ aback x (step_back x) (past_of s₀ l)) (sym (played h).leads)
 
@@ -146,7 +145,7 @@ by_answer (suc a) h k =
     let ne : suc a ≡ 0 → ⊥ = λ z. omega arith in
     rw (ne_eqb (suc a) 0 ne) (k ne)
 
-step_words : (v : Way) {s₀ : State} {c : Count} {s : State} {x : Returned walk.Reply} → s.mem.ring ≡ s₀.mem.ring → Words s₀ c s → Tells told (stepping v) s x
+step_words : (v : Way) {s₀ : State} {c : Count} {s : State} {x : Returned numbers.Reply} → s.mem.ring ≡ s₀.mem.ring → Words s₀ c s → Tells told (stepping v) s x
     → Words s₀ (counts (stepped x.result) c) (leaves x)
 step_words v {s₀} {c} {s} {x} m w e =
     by_answer x.result.answer
@@ -161,7 +160,7 @@ ends_words {n} {s} g p (cut {k} {a} {t} l h e) =
     let d : Demand1 instruction (forward ws s) a t = replies-of.demand1 instruction (forward ws s) a t e in
     omega (arith, d.used, drops_plain (history-of.ring_forward s g ws h ∙ p) d.drops, history-of.used_run s g p ws h, length-replicate k instruction)
 
-run_words : (n : ℕ) {s₀ : State} {c : Count} {s : State} {x : Returned runs.Report} → Good s → s.mem.ring ≡ s₀.mem.ring → Words s₀ c s → Tells reported (run n) s x
+run_words : (n : ℕ) {s₀ : State} {c : Count} {s : State} {x : Returned numbers.Report} → Good s → s.mem.ring ≡ s₀.mem.ring → Words s₀ c s → Tells reported (run n) s x
     → Words s₀ (counts (ran x.result) c) (reported x).end
 run_words n {s₀} {c} {s} {x} g m w e = go (fits s.mem) refl
   where
@@ -182,7 +181,7 @@ run_words n {s₀} {c} {s} {x} g m w e = go (fits s.mem) refl
         }
 
 -- what is accepted has answered 0, and what has is
-accepted_0 : {f : State → Outcome} {s : State} {x : Returned walk.Reply} → Tells told f s x → Accepted (f s).reply → x.result.answer ≡ 0
+accepted_0 : {f : State → Outcome} {s : State} {x : Returned numbers.Reply} → Tells told f s x → Accepted (f s).reply → x.result.answer ≡ 0
 accepted_0 {x = x} e h = go x.result.answer refl
   where
     go : (a : ℕ) → x.result.answer ≡ a → a ≡ 0
@@ -220,12 +219,12 @@ module _ {s₀ : State} (g : Good s₀) (z : s₀.mem.used ≡ 0) where
       omega (arith, k, length_all ws s₀, counts_steps h)
 
   -- the steps that are left after one was taken back
-  less_past : {s : State} {l : List Said} {x : Returned walk.Reply} → Called s₀ l s → Tells told backing s x → x.result.answer ≡ 0
+  less_past : {s : State} {l : List Said} {x : Returned numbers.Reply} → Called s₀ l s → Tells told backing s x → x.result.answer ≡ 0
       → (past_of s₀ (backed x.result ∷ l)).steps ≡ drop 1 (past_of s₀ l).steps
   less_past {s} {l} {x} h e a =
       ap (λ (p : Past). p.steps) (back_past x.result h) ∙ ap (λ (r : Reply). (tally s₀ aback s r (past_of s₀ l)).steps) (accepts e a)
 
-  back_words : {s : State} {l : List Said} {x : Returned walk.Reply} → Words s₀ (count_of l) s → (h : Called s₀ l s) → Tells told backing s x
+  back_words : {s : State} {l : List Said} {x : Returned numbers.Reply} → Words s₀ (count_of l) s → (h : Called s₀ l s) → Tells told backing s x
       → Words s₀ (counts (backed x.result) (count_of l)) (leaves x)
   back_words {s} {l} {x} w h e =
       by_answer x.result.answer (λ q. record { told = refl; each = λ r. one (past_of s₀ l).steps refl q r })

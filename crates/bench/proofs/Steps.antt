@@ -8,7 +8,7 @@ use Rattle.rules.specs.Calls.{Way, image_fits, parts_fit, place_fits, fits, atte
 use Rattle.rules.specs.Demands.{Bytes}
 use Rattle.ring.proofs.Turned.{length_turned}
 use Rattle.bench.specs.declared.at.At.{At}
-use Rattle.bench.specs.declared.walk.Reply as walk
+use Rattle.bench.specs.Numbers as numbers
 use Rattle.bench.specs.Meaning.{state_at, Returned, returned, outcome, replies, told, refusal, settled, settling, stepping, Tells}
 
 -- bytes are bytes
@@ -41,6 +41,6 @@ pub step_unfit : (w : Way) {i p v g j : List ℕ} {at : At} {t : Bool} → t ≡
 unfolding step replies
 step_unfit w e h = record { is = rw (sym e ∙ h) }
 
-pub step_fits : (w : Way) {s : State} {x : Returned walk.Reply} {t : Bool} → t ≡ fits s.mem → t ≡ true → Tells told (settling w) s x → Tells told (stepping w) s x
+pub step_fits : (w : Way) {s : State} {x : Returned numbers.Reply} {t : Bool} → t ≡ fits s.mem → t ≡ true → Tells told (settling w) s x → Tells told (stepping w) s x
 unfolding step fit_step
 step_fits w {s} e h k = record { is = rw (sym e ∙ h) (k.is ∙ as_step w s (attempt w s)) }

@@ -1,3 +1,4 @@
 pub mod Making
 pub mod Meaning
+pub mod Numbers
 pub mod Promised

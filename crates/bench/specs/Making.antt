@@ -19,6 +19,7 @@ use Rattle.sound.specs.Meaning.{LentOutput, room_left, written, writing, Stays}
 use Rattle.bench.specs.declared.at.At.{At}
 use Rattle.bench.specs.declared.walk.Reply.{Reply}
 use Rattle.bench.specs.declared.ticks.Ticked.{Ticked}
+use Rattle.bench.specs.Numbers.{of_reply, of_ticked}
 use Rattle.bench.specs.Meaning.{count_at, state_at, Lends, Returned, returned, told, settling, marking, heard, fit_ticking, Tells}
 
 -- ---- an instruction
@@ -81,13 +82,13 @@ pub record Begun (at : At) (m : Machine) (t : Result Bool Why) : Type 0 where
 -- whatever was attempted is done, or is put back; the map stays
 abbrev pub Settles : LentMachine → At → Result Bool Why → Reply → Type 0
 Settles m at t r =
-    ((b : Begun at m.entry.now t) → Tells told (settling b.way) b.from (handed m.exit.now r))
+    ((b : Begun at m.entry.now t) → Tells told (settling b.way) b.from (handed m.exit.now (of_reply r)))
     × (m.exit.now.map.now ≡ m.entry.now.map.now) × (kept m.exit.now ≡ kept m.entry.now)
 
 -- a step of it past test 11
 abbrev pub Steps : LentMachine → At → Reply → Type 0
 Steps m at r =
-    Tells told (settling calls.instruction) (state_in m.entry.now at) (handed m.exit.now r)
+    Tells told (settling calls.instruction) (state_in m.entry.now at) (handed m.exit.now (of_reply r))
     × (m.exit.now.map.now ≡ marking attempt_reads m.entry.now.map.now (state_in m.entry.now at)) × (kept m.exit.now ≡ kept m.entry.now)
 
 -- ---- a tick
@@ -111,5 +112,5 @@ TriesTick v m o result =
 -- a tick past test 11, of an output of which no byte is in use
 abbrev pub Ticks : LentMachine → LentOutput → At → Ticked → Type 0
 Ticks m o at r =
-    Tells (heard o.exit.now.bytes.now) (fit_ticking o.entry.now.bytes.now) (state_in m.entry.now at) (handed m.exit.now r)
+    Tells (heard o.exit.now.bytes.now) (fit_ticking o.entry.now.bytes.now) (state_in m.entry.now at) (handed m.exit.now (of_ticked r))
     × (kept m.exit.now ≡ kept m.entry.now) × (o.exit.now.bytes.ghost_name ≡ o.entry.now.bytes.ghost_name)

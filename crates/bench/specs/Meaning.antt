@@ -14,7 +14,9 @@ use Rattle.machine.specs.Meaning.{IsPad, IsVram, IsRegs, Lent, Parts, Rest, afte
 use Rattle.bench.specs.declared.at.At.{At}
 use Rattle.bench.specs.declared.walk.Reply as walk
 use Rattle.bench.specs.declared.runs.Report as runs
-use Rattle.bench.specs.declared.ticks.Ticked.{Ticked}
+use Rattle.bench.specs.declared.ticks.Ticked as ticks
+use Rattle.bench.specs.Numbers as numbers
+use Rattle.bench.specs.Numbers.{Ticked, of_reply, of_report, of_ticked}
 use Rattle.bench.specs.declared.viewer.Memory.{Memory}
 use Rattle.bench.specs.declared.viewer.Memory.TheVariants.{Cpu, Vdp}
 
@@ -98,10 +100,10 @@ unfoldable pub replies : Answer → State → calls.Reply
 replies a s = pick (eqb a.number 0) (calls.done s) (calls.refused a s)
 
 -- the state in which the next call finds the machine
-abbrev pub leaves : Returned walk.Reply → State
+abbrev pub leaves : Returned numbers.Reply → State
 leaves x = stands_at x x.result.at
 
-abbrev pub told : Returned walk.Reply → Outcome
+abbrev pub told : Returned numbers.Reply → Outcome
 told x =
     record {
       reply = replies (saying x.result.answer x.result.address) (leaves x);
@@ -109,7 +111,7 @@ told x =
       stores = x.result.stores;
     }
 
-abbrev pub refusal : Answer → At → walk.Reply
+abbrev pub refusal : Answer → At → numbers.Reply
 refusal a at = record { answer = a.number; address = a.address; stores = 0; at = at }
 
 -- how an attempt is settled, with the number of its stores: "A refused step puts all back", and reports none
@@ -141,10 +143,10 @@ marking f z s = marked (f s) z
 
 -- ---- a run: the rules' report
 
-abbrev pub no_steps : Answer → At → runs.Report
+abbrev pub no_steps : Answer → At → numbers.Report
 no_steps a at = record { answer = a.number; address = a.address; steps = 0; stores = 0; at = at }
 
-abbrev pub reported : Returned runs.Report → calls.Report
+abbrev pub reported : Returned numbers.Report → calls.Report
 reported x = calls.report (saying x.result.answer x.result.address) x.result.steps x.result.stores (stands_at x x.result.at)
 
 -- ---- a tick: as a step, and what it does to an output
@@ -154,7 +156,7 @@ pub record Heard : Type 0 where
   pub sent : ℕ
   pub output : List ℕ
 
-abbrev pub replied : Returned Ticked → Returned walk.Reply
+abbrev pub replied : Returned Ticked → Returned numbers.Reply
 replied x =
     returned x.image x.pad x.vram x.regs x.journal
     (record { answer = x.result.answer; address = x.result.address; stores = x.result.stores; at = x.result.at })
@@ -163,7 +165,7 @@ replied x =
 abbrev pub heard : List ℕ → Returned Ticked → Heard
 heard o x = record { outcome = told (replied x); sent = x.result.sent; output = o }
 
-abbrev pub heard_as : walk.Reply → ℕ → Ticked
+abbrev pub heard_as : numbers.Reply → ℕ → Ticked
 heard_as r n = record { answer = r.answer; address = r.address; stores = r.stores; at = r.at; sent = n }
 
 -- past test 11, with the output as it was lent
@@ -196,13 +198,13 @@ Returns say f q at r =
     (rest : Rest q) → Tells say f (lent_to q rest at) (returned_by q rest r)
 
 abbrev pub Replies : (State → Outcome) → (Parts → Parts) → At → walk.Reply → Type 0
-Replies f parts at r = Returns told f (parts unmapped) at r
+Replies f parts at r = Returns told f (parts unmapped) at (of_reply r)
 
-abbrev pub Hears : (List ℕ → State → Heard) → (Parts → Parts) → Lent → At → Ticked → Type 0
-Hears f parts o at r = Returns (heard o.exit.now) (f o.entry.now) (parts unmapped) at r
+abbrev pub Hears : (List ℕ → State → Heard) → (Parts → Parts) → Lent → At → ticks.Ticked → Type 0
+Hears f parts o at r = Returns (heard o.exit.now) (f o.entry.now) (parts unmapped) at (of_ticked r)
 
 abbrev pub Reports : (State → calls.Report) → (Parts → Parts) → At → runs.Report → Type 0
-Reports f parts at r = Returns reported f (parts unmapped) at r
+Reports f parts at r = Returns reported f (parts unmapped) at (of_report r)
 
 -- the map that a call is lent becomes what f makes of it and of the state lent
 abbrev pub Sees : (List ℕ → State → List ℕ) → (Parts → Parts) → Lent → At → Type 0

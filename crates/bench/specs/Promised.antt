@@ -4,29 +4,28 @@ use Rattle.rules.specs.Machine.{pick, State}
 use Rattle.rules.specs.Answers.{saying}
 use Rattle.rules.specs.Calls.{instruction, tick, run}
 use Rattle.rules.specs.Demands.{BackCause, Op, forth, aback, total, Past, past, history, Demand3}
-use Rattle.bench.specs.declared.walk.Reply as walk
-use Rattle.bench.specs.declared.runs.Report as runs
+use Rattle.bench.specs.Numbers as numbers
 use Rattle.bench.specs.Meaning.{Returned, leaves, told, stepping, backing, reported, Tells}
 
 -- ---- a sequence of calls
 
 -- what a call said: the result that it handed back
 pub data Said : Type 0 where
-  stepped backed : walk.Reply → Said
+  stepped backed : numbers.Reply → Said
   -- with an output of so many bytes, which is left aside
-  ticked : ℕ → walk.Reply → Said
-  ran : runs.Report → Said
+  ticked : ℕ → numbers.Reply → Said
+  ran : numbers.Report → Said
 
 -- "any sequence of steps and step-backs, refused ones among them", and ticks and runs: calls, each known by its contract, that have led from s₀ to a state; and what they
 -- said, newest first
 pub data Called (s₀ : State) : List Said → State → Type 0 where
   no_call : Called s₀ [] s₀
-  then_step : {l : List Said} {s : State} {x : Returned walk.Reply} → Called s₀ l s → Tells told (stepping instruction) s x
+  then_step : {l : List Said} {s : State} {x : Returned numbers.Reply} → Called s₀ l s → Tells told (stepping instruction) s x
       → Called s₀ (stepped x.result ∷ l) (leaves x)
-  then_tick : {l : List Said} {s : State} (n : ℕ) {x : Returned walk.Reply} → Called s₀ l s → Tells told (stepping (tick n)) s x
+  then_tick : {l : List Said} {s : State} (n : ℕ) {x : Returned numbers.Reply} → Called s₀ l s → Tells told (stepping (tick n)) s x
       → Called s₀ (ticked n x.result ∷ l) (leaves x)
-  then_back : {l : List Said} {s : State} {x : Returned walk.Reply} → Called s₀ l s → Tells told backing s x → Called s₀ (backed x.result ∷ l) (leaves x)
-  then_run : {l : List Said} {s : State} (n : ℕ) {x : Returned runs.Report} → Called s₀ l s → Tells reported (run n) s x
+  then_back : {l : List Said} {s : State} {x : Returned numbers.Reply} → Called s₀ l s → Tells told backing s x → Called s₀ (backed x.result ∷ l) (leaves x)
+  then_run : {l : List Said} {s : State} (n : ℕ) {x : Returned numbers.Report} → Called s₀ l s → Tells reported (run n) s x
       → Called s₀ (ran x.result ∷ l) (reported x).end
 
 -- ---- what a caller counts of it, knowing nothing else
@@ -41,15 +40,15 @@ abbrev pub count : ℕ → ℕ → ℕ → Count
 count k n u = record { steps = k; stores = n; used = u }
 
 -- a step that was done is one more
-abbrev pub one_more : walk.Reply → Count → Count
+abbrev pub one_more : numbers.Reply → Count → Count
 one_more r c = count (suc c.steps) (c.stores + r.stores) r.at.used
 
 -- a step back that was done is one less: the words that it has freed are the mark and the stores of that step
-abbrev pub one_less : walk.Reply → Count → Count
+abbrev pub one_less : numbers.Reply → Count → Count
 one_less r c = count (c.steps - 1) (c.stores - (c.used - r.at.used - 1)) r.at.used
 
 -- what was refused counts for nothing, but a ring may have lost words by it
-abbrev pub no_more : walk.Reply → Count → Count
+abbrev pub no_more : numbers.Reply → Count → Count
 no_more r c = count c.steps c.stores r.at.used
 
 -- a run counts by its own report
@@ -101,5 +100,5 @@ pub record Keeps (s₀ : State) (h : Past) (c : Count) (s : State) : Type 0 wher
   pub words : s₀.mem.ring ≡ false → c.used ≡ c.steps + c.stores
   pub stores : s₀.mem.ring ≡ false → c.stores ≡ total h.steps s₀
   -- "A step-back is refused only when no such step is left.": the answer of the next one
-  pub some_left : {x : Returned walk.Reply} → Tells told backing s x → 0 < h.kept → x.result.answer ≡ 0
-  pub none_left : {x : Returned walk.Reply} → Tells told backing s x → h.kept ≡ 0 → BackCause s (saying x.result.answer x.result.address)
+  pub some_left : {x : Returned numbers.Reply} → Tells told backing s x → 0 < h.kept → x.result.answer ≡ 0
+  pub none_left : {x : Returned numbers.Reply} → Tells told backing s x → h.kept ≡ 0 → BackCause s (saying x.result.answer x.result.address)

@@ -5,19 +5,17 @@ ghost use Rattle.rules.specs.Calls;
 ghost use Rattle.rules.specs.Calls.{steps};
 ghost use Rattle.rules.specs.Reads.{run_reads};
 ghost use Rattle.machine.specs.Meaning.{why_of, ◌&◌, Groups, Image, Journal, Pad, Regs, Vram};
+ghost use Rattle.bench.specs.Numbers.{of_report};
 ghost use Rattle.bench.specs.Meaning.{no_steps, Fits, Reports, Charts, Maps};
 
 use crate::at::At;
 use crate::{fits, walk};
 use machine::answers::Why;
 
-// The answer is a number, as README has it and C reads it.
-// What a run leaves: its answer, with the address that was turned down or 0, how many steps were done, how many bytes these stored, and where
-// the machine stands.
+// What a run leaves: why its last step was refused, or that all were done, how many were, how many bytes these stored, and where the machine stands.
 #[derive(Clone, Copy)]
 pub struct Report {
-    pub answer: u8,
-    pub address: u16,
+    pub refusal: Option<Why>,
     pub steps: u32,
     pub stores: u64,
     pub at: At,
@@ -25,11 +23,10 @@ pub struct Report {
 
 // No step was made.
 fn turned_down(why: Why, at: At) -> Report
-    ensures { result ≡ no_steps (answer_for (why_of why)) at }
+    ensures { of_report result ≡ no_steps (answer_for (why_of why)) at }
 {
     Report {
-        answer: why.number(),
-        address: why.address(),
+        refusal: Some(why),
         steps: 0,
         stores: 0,
         at,
@@ -55,10 +52,9 @@ fn fit_run(
     for done in 0..n {
         let r = walk::fit_step(image, map, pad, vram, regs, journal, here);
         here = r.at;
-        if r.answer != 0 {
+        if r.refusal.is_some() {
             return Report {
-                answer: r.answer,
-                address: r.address,
+                refusal: r.refusal,
                 steps: done,
                 stores,
                 at: here,
@@ -67,15 +63,14 @@ fn fit_run(
         stores += r.stores;
     }
     Report {
-        answer: 0,
-        address: 0,
+        refusal: None,
         steps: n,
         stores,
         at: here,
     }
 }
 
-// Up to n steps, to the first answer other than 0. What they read is marked in the map, as far as it reaches.
+// Up to n steps, to the first that is refused. What they read is marked in the map, as far as it reaches.
 fn marking_run(
     image: &mut [u8],
     map: &mut [u8],

@@ -1,6 +1,7 @@
 // Ticks of a sound list.
 ghost use Rattle.std.specs.Prelude.{◌≡◌, ◌++◌, ◌≤◌, length, drop, replicate};
 ghost use Rattle.machine.specs.Meaning.{◌&◌, Groups, Image, Journal, Pad, Regs, Vram};
+ghost use Rattle.bench.specs.Numbers.{of_reply, of_ticked};
 ghost use Rattle.bench.specs.Meaning.{Fit, Hears, fit_ticking, heard_as, ticking};
 ghost use Rattle.bench.specs.Making.{Stands, TriesTick, Ticks};
 
@@ -11,12 +12,10 @@ use machine::answers::Why;
 use machine::state::Machine;
 use sound::list::Output;
 
-// The answer is a number, as README has it and C reads it.
 // What a tick leaves: as a step, and how many bytes it has sent, which stand in the output from its first byte on.
 #[derive(Clone, Copy)]
 pub struct Ticked {
-    pub answer: u8,
-    pub address: u16,
+    pub refusal: Option<Why>,
     pub stores: u64,
     pub at: At,
     pub sent: usize,
@@ -24,11 +23,10 @@ pub struct Ticked {
 
 // A step's reply, and what was sent.
 fn sending(r: Reply, sent: usize) -> Ticked
-    ensures { result ≡ heard_as r sent }
+    ensures { of_ticked result ≡ heard_as (of_reply r) sent }
 {
     Ticked {
-        answer: r.answer,
-        address: r.address,
+        refusal: r.refusal,
         stores: r.stores,
         at: r.at,
         sent,

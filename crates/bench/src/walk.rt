@@ -5,6 +5,7 @@ ghost use Rattle.rules.specs.Answers.{answer_for};
 ghost use Rattle.rules.specs.Calls.{instruction};
 ghost use Rattle.rules.specs.Journal.{undo};
 ghost use Rattle.machine.specs.Meaning.{why_of, ◌&◌, Became, Groups, Image, Journal, Pad, Regs, Vram};
+ghost use Rattle.bench.specs.Numbers.{of_reply};
 ghost use Rattle.bench.specs.Meaning.{Fit, Replies, Attempts, refusal, stepping, undoing, backing};
 ghost use Rattle.bench.specs.Making.{Stands, Begun, Tries, Settles, Steps};
 
@@ -16,22 +17,19 @@ use opcode::class::Class;
 use ring::book;
 use ring::book::Book;
 
-// The answer is a number, as README has it and C reads it.
-// What a call leaves: its answer, with the address that was turned down or 0, how many bytes it stored, and where the machine stands.
+// What a call leaves: why it was refused, or that it was done, how many bytes it stored, and where the machine stands.
 #[derive(Clone, Copy)]
 pub struct Reply {
-    pub answer: u8,
-    pub address: u16,
+    pub refusal: Option<Why>,
     pub stores: u64,
     pub at: At,
 }
 
 pub(crate) fn turned_down(why: Why, at: At) -> Reply
-    ensures { result ≡ refusal (answer_for (why_of why)) at }
+    ensures { of_reply result ≡ refusal (answer_for (why_of why)) at }
 {
     Reply {
-        answer: why.number(),
-        address: why.address(),
+        refusal: Some(why),
         stores: 0,
         at,
     }
@@ -82,8 +80,7 @@ pub(crate) fn settle(m: &mut Machine<'_>, at: At, tried: Result<bool, Why>) -> R
     let taken = book.used - book.older;
     match tried {
         Ok(source) => Reply {
-            answer: 0,
-            address: 0,
+            refusal: None,
             stores: (taken - 1) as u64,
             at: At::rest(m.pc, book, at.writable, source),
         },
@@ -213,8 +210,7 @@ fn fit_back(
     };
     let left = machine::journal::undo(image, pad, vram, regs, journal, book, found.words);
     Reply {
-        answer: 0,
-        address: 0,
+        refusal: None,
         stores: 0,
         at: At::rest(found.pc, left, at.writable, found.source),
     }

@@ -172,10 +172,7 @@ fn trace(
 fn byte_in(memory: &[u8], at: usize) -> u8
     ensures { result ≡ get_or memory.now at 0 }
 {
-    if at < memory.len() {
-        return memory[at];
-    }
-    0
+    memory.get(at).copied().unwrap_or(0)
 }
 
 // The byte that stands in the cell now: no later kept step stored there, so the one that is found left it.

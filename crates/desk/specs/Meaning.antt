@@ -4,11 +4,11 @@ use Rattle.std.specs.Borrow.{MutBor}
 use denote.Triple.Both.{Both}
 use Rattle.machine.specs.Meaning.{Lent, SeenLent}
 use Rattle.rules.specs.Machine.{State}
-use Rattle.rules.specs.Answers.{saying}
 use Rattle.rules.specs.Calls as calls
 use Rattle.bench.specs.Meaning.{state_at}
 use Rattle.bench.specs.declared.at.At.{At}
 use Rattle.bench.specs.declared.runs.Report.{Report}
+use Rattle.bench.specs.Numbers.{answer_of, of_report}
 use Rattle.lines.specs.Lines as lines
 use Rattle.lines.specs.Shown.{run_lines, Front}
 use Rattle.desk.specs.Bytes.{index_of}
@@ -35,7 +35,7 @@ LentMachine = Both (MutBor Machine) (MutBor Machine)
 
 -- a run of up to n steps: its report is the rules', with the machine as it leaves it
 pub record Runs (n : ℕ) (m m₁ : Machine) (r : Report) : Type 0 where
-  pub is : calls.report (saying r.answer r.address) r.steps r.stores (state_of m₁) ≡ calls.run n (state_of m)
+  pub is : calls.report (answer_of r.refusal) r.steps r.stores (state_of m₁) ≡ calls.run n (state_of m)
   pub at : m₁.at ≡ r.at
 
 abbrev pub Ran : ℕ → LentMachine → Report → Type 0
@@ -62,7 +62,8 @@ Obeys k l m out r = Obeyed k l (state_of m.entry.now) (state_of m.exit.now) out.
 
 -- its report, with pad, VDP RAM and registers before it and after it
 abbrev pub report_text : Report → Cells → Cells → List ℕ
-report_text r was is = run_lines r.answer r.steps r.stores r.address r.at.pc was.pad is.pad was.vram is.vram was.regs is.regs
+report_text r was is =
+    run_lines (of_report r).answer r.steps r.stores (of_report r).address r.at.pc was.pad is.pad was.vram is.vram was.regs is.regs
 
 -- ---- an input, of which a text has been read
 

@@ -16,7 +16,7 @@ pub struct Span {
     pub next: usize,
 }
 
-// The first place from one on, and before another, where a byte stands; that other, where none does: both callers then go up to it.
+// The first place from one on, and before another, where a byte stands; that other, where none does: the caller then goes up to it.
 pub fn find(text: &[u8], from: usize, end: usize, byte: u8) -> usize
     requires { (from ≤ end) × (end ≤ length text.now) }
     ensures { (result ≡ from + index_of byte (slice from end text.now)) × (result ≤ end) }

@@ -5,6 +5,7 @@ ghost use Rattle.lines.specs.Shown.{Front};
 ghost use Rattle.desk.specs.Meaning.{report_text};
 
 use crate::state::Cells;
+use bench::answers;
 use bench::runs::Report;
 use lines::parts::Part;
 use lines::print;
@@ -18,7 +19,15 @@ pub const ROOM: usize = 216507;
 pub fn put_run(out: &mut [u8; ROOM], r: Report, was: &Cells, is: &Cells) -> usize
     ensures { Front (report_text r was.now is.now) out.new result }
 {
-    let a = print::put_answer(out, 0, r.answer, r.steps, r.stores, r.address);
+    let answer = answers::number(r.refusal);
+    let a = print::put_answer(
+        out,
+        0,
+        answer,
+        r.steps,
+        r.stores,
+        answers::address(r.refusal),
+    );
     let b = print::put_pc(out, a, r.at.pc);
     let c = print::put_changed(out, b, Part::Pad, &was.pad, &is.pad);
     let d = print::put_changed(out, c, Part::Vdp, &was.vram, &is.vram);

@@ -12,8 +12,7 @@ use Rattle.rules.specs.Reads.{map_fits, mapped_run}
 use Rattle.rules.proofs.Stores.{mem_of, groups_after, ring_after}
 use Rattle.rules.proofs.Steps.{Tried, early, late, tried}
 use Rattle.rules.proofs.Fits.{fits_used, step_cases}
-use Rattle.bench.specs.declared.walk.Reply as walk
-use Rattle.bench.specs.declared.runs.Report as runs
+use Rattle.bench.specs.Numbers as numbers
 use Rattle.bench.specs.Meaning.{Returned, told, stepping, backing, reported, Tells}
 use Rattle.bench.proofs.Replies.{leads}
 
@@ -56,11 +55,11 @@ ran n s = go (fits s.mem)
     go true = ran_steps n s
     go false = refl
 
-pub of_run : (n : ℕ) {s : State} {x : Returned runs.Report} → Tells reported (run n) s x → (x.result.at.writable, x.result.at.ring) ≡ chosen s.mem
+pub of_run : (n : ℕ) {s : State} {x : Returned numbers.Report} → Tells reported (run n) s x → (x.result.at.writable, x.result.at.ring) ≡ chosen s.mem
 of_run n {s} h = ap (λ (r : Report). chosen r.end.mem) h.is ∙ ran n s
 
 -- with a map it is a run, or nothing at all
-pub of_mapped : (n : ℕ) (z : List ℕ) {s : State} {x : Returned runs.Report} → Tells reported (mapped_run n z) s x
+pub of_mapped : (n : ℕ) (z : List ℕ) {s : State} {x : Returned numbers.Report} → Tells reported (mapped_run n z) s x
     → (x.result.at.writable, x.result.at.ring) ≡ chosen s.mem
 unfolding mapped_run
 of_mapped n z {s} h = ap (λ (r : Report). chosen r.end.mem) h.is ∙ go (map_fits z s)
@@ -69,7 +68,7 @@ of_mapped n z {s} h = ap (λ (r : Report). chosen r.end.mem) h.is ∙ go (map_fi
     go true = ran n s
     go false = refl
 
-pub of_step : (w : Way) {s : State} {x : Returned walk.Reply} → Tells told (stepping w) s x → (x.result.at.writable, x.result.at.ring) ≡ chosen s.mem
+pub of_step : (w : Way) {s : State} {x : Returned numbers.Reply} → Tells told (stepping w) s x → (x.result.at.writable, x.result.at.ring) ≡ chosen s.mem
 of_step w {s} h = ap (λ (t : State). chosen t.mem) (leads h) ∙ stepped w s
 
 -- ---- a step back
@@ -101,5 +100,5 @@ backed s = go (fits s.mem)
     go true = went_back (scan (area s.mem) s.mem.used s.mem.journal) s
     go false = refl
 
-pub of_back : {s : State} {x : Returned walk.Reply} → Tells told backing s x → (x.result.at.writable, x.result.at.ring) ≡ chosen s.mem
+pub of_back : {s : State} {x : Returned numbers.Reply} → Tells told backing s x → (x.result.at.writable, x.result.at.ring) ≡ chosen s.mem
 of_back {s} h = ap (λ (t : State). chosen t.mem) (leads h) ∙ backed s

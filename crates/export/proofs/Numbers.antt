@@ -4,9 +4,8 @@ use Rattle.rules.specs.Machine.{pick, State}
 use Rattle.rules.specs.Answers.{saying, well, answer_for, wrong_length}
 use Rattle.rules.specs.Calls.{instruction, tick, fits, Reply, done, refused, answer, left, step, step_stores, made, Report, report, onto, steps, run}
 use Rattle.rules.proofs.Fits.{step_unfit}
-use Rattle.bench.specs.declared.walk.Reply as walk
-use Rattle.bench.specs.declared.runs.Report as runs
-use Rattle.bench.specs.declared.ticks.Ticked.{Ticked}
+use Rattle.bench.specs.Numbers as numbers
+use Rattle.bench.specs.Numbers.{Ticked}
 use Rattle.bench.specs.Meaning as bench
 use Rattle.bench.specs.Meaning.{state_at, Returned, returned, Outcome, replies, told, stepping, reported, Heard, ticking, Tells}
 use Rattle.export.specs.Meaning.{Numbers, heard, Flagged, tallied, counted, one_step}
@@ -30,21 +29,21 @@ flag_told true e = rw e (omega arith)
 flag_told false e = rw e (omega arith)
 
 module _ {i p v g j out : List ℕ} {s : State} (ring : ℕ) {w : ℕ} where
-  pub heard_report : {f : State → Report} {r : runs.Report} → ◌≡◌ {A = ℕ × Bool} (r.at.writable, r.at.ring) (w, not (eqb ring 0))
-      → out ≡ r.at.pc ∷ r.at.used ∷ r.steps ∷ r.stores ∷ r.address ∷ r.at.place ∷ pick r.at.source 1 0 ∷ []
-      → Tells reported f s (returned i p v g j r) → Tells (heard ring w) f s (returned i p v g j (record { answer = r.answer; out = out }))
+  pub heard_report : {f : State → Report} (r : numbers.Report) {a d : ℕ} → a ≡ r.answer → d ≡ r.address → ◌≡◌ {A = ℕ × Bool} (r.at.writable, r.at.ring) (w, not (eqb ring 0))
+      → out ≡ r.at.pc ∷ r.at.used ∷ r.steps ∷ r.stores ∷ d ∷ r.at.place ∷ pick r.at.source 1 0 ∷ []
+      → Tells reported f s (returned i p v g j r) → Tells (heard ring w) f s (returned i p v g j (record { answer = a; out = out }))
   unfolding heard
-  heard_report {r = r} q e h =
-      record { is = rw (e, sym (ap (λ (c : ℕ × Bool). c.0) q), sym (ap (λ (c : ℕ × Bool). c.1) q), flag_read r.at.source) h.is }
+  heard_report r b l q e h =
+      record { is = rw (e, b, l, sym (ap (λ (c : ℕ × Bool). c.0) q), sym (ap (λ (c : ℕ × Bool). c.1) q), flag_read r.at.source) h.is }
 
-  pub heard_reply : {f : State → Outcome} {r : walk.Reply} {k : ℕ} → ◌≡◌ {A = ℕ × Bool} (r.at.writable, r.at.ring) (w, not (eqb ring 0))
-      → out ≡ r.at.pc ∷ r.at.used ∷ k ∷ r.stores ∷ r.address ∷ r.at.place ∷ pick r.at.source 1 0 ∷ []
-      → k ≡ pick (eqb r.answer 0) 1 0 → Tells told f s (returned i p v g j r)
-      → Tells (heard ring w) (λ (t : State). counted (f t)) s (returned i p v g j (record { answer = r.answer; out = out }))
+  pub heard_reply : {f : State → Outcome} (r : numbers.Reply) {a d k : ℕ} → a ≡ r.answer → d ≡ r.address → ◌≡◌ {A = ℕ × Bool} (r.at.writable, r.at.ring) (w, not (eqb ring 0))
+      → out ≡ r.at.pc ∷ r.at.used ∷ k ∷ r.stores ∷ d ∷ r.at.place ∷ pick r.at.source 1 0 ∷ []
+      → k ≡ pick (eqb a 0) 1 0 → Tells told f s (returned i p v g j r)
+      → Tells (heard ring w) (λ (t : State). counted (f t)) s (returned i p v g j (record { answer = a; out = out }))
   unfolding heard counted
-  heard_reply {r = r} y e q h =
+  heard_reply r b l y e q h =
       record {
-        is = rw (e, q, sym (ap (λ (c : ℕ × Bool). c.0) y), sym (ap (λ (c : ℕ × Bool). c.1) y), flag_read r.at.source)
+        is = rw (e, q, b, l, sym (ap (λ (c : ℕ × Bool). c.0) y), sym (ap (λ (c : ℕ × Bool). c.1) y), flag_read r.at.source)
             (tally r.answer r.address r.stores (state_at i p v g j r.at) ∙ ap counted h.is);
       }
 

@@ -13,6 +13,7 @@ ghost use Rattle.rules.specs.Calls.{run};
 ghost use Rattle.machine.specs.Meaning.{◌&◌, Groups, Image, Journal, Pad, Regs, Vram};
 ghost use Rattle.export.specs.Meaning.{Hears, one_step, one_back, Shows, shown};
 
+use bench::answers;
 use bench::at::At;
 use bench::viewer::Memory;
 
@@ -89,8 +90,14 @@ pub fn argolythe_run(
         source: source != 0,
     };
     let r = bench::runs::run(image, pad, vdp, reg, journal, start, n);
-    tell(out, r.at, r.steps as u64, r.stores, r.address);
-    r.answer
+    tell(
+        out,
+        r.at,
+        r.steps as u64,
+        r.stores,
+        answers::address(r.refusal),
+    );
+    answers::number(r.refusal)
 }
 
 // One step back: `steps` says whether one was taken back, and no stores are counted.
@@ -119,9 +126,15 @@ pub fn argolythe_step_back(
         source: source != 0,
     };
     let r = bench::walk::step_back(image, pad, vdp, reg, journal, start);
-    let steps = steps_of(r.answer);
-    tell(out, r.at, steps, r.stores, r.address);
-    r.answer
+    let answer = answers::number(r.refusal);
+    tell(
+        out,
+        r.at,
+        steps_of(answer),
+        r.stores,
+        answers::address(r.refusal),
+    );
+    answer
 }
 
 // ---- the viewer

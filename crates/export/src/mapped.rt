@@ -2,6 +2,7 @@
 ghost use Rattle.machine.specs.Meaning.{◌&◌, Groups, Image, Journal, Pad, Regs, Vram};
 ghost use Rattle.export.specs.Mapped.{HearsMapped};
 
+use bench::answers;
 use bench::at::At;
 
 // As a run: each byte that it reads gets 1 in a map of one byte for each of the image's.
@@ -32,6 +33,12 @@ pub fn argolythe_run_mapped(
         source: source != 0,
     };
     let r = bench::runs::run_mapped(image, map, pad, vdp, reg, journal, start, n);
-    crate::tell(out, r.at, r.steps as u64, r.stores, r.address);
-    r.answer
+    crate::tell(
+        out,
+        r.at,
+        r.steps as u64,
+        r.stores,
+        answers::address(r.refusal),
+    );
+    answers::number(r.refusal)
 }

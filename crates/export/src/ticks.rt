@@ -2,6 +2,7 @@
 ghost use Rattle.machine.specs.Meaning.{◌&◌, Groups, Image, Journal, Pad, Regs, Vram};
 ghost use Rattle.export.specs.Ticks.{HearsTick};
 
+use bench::answers;
 use bench::at::At;
 
 // One tick: `steps` says whether it was done, and `sent` how many bytes stand in the output.
@@ -33,7 +34,8 @@ pub fn argolythe_tick(
     };
     let r = bench::ticks::tick(image, pad, vdp, reg, journal, start, output);
     *sent = r.sent;
-    let steps = crate::steps_of(r.answer);
-    crate::tell(out, r.at, steps, r.stores, r.address);
-    r.answer
+    let answer = answers::number(r.refusal);
+    let steps = crate::steps_of(answer);
+    crate::tell(out, r.at, steps, r.stores, answers::address(r.refusal));
+    answer
 }

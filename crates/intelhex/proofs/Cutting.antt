@@ -2,7 +2,8 @@
 -- Assumes nothing.
 use Rattle.std.proofs.Common.{◌≡◌, refl, sym, ap, ◌∙◌, subst, Bool, true, false, true≢false, cond, ◌&&◌, Option, Some, None, MatchOption}
 use Rattle.std.proofs.Common.{unwrap_or, List, [], ◌∷◌, ℕ, zero, suc, ◌+◌, ◌-◌, ◌≤◌, ◌<◌, eqb, ltb, length, get_or, take, drop, add-one}
-use Rattle.std.proofs.Common.{length-take, length-drop, arith, not-suc-le-zero, take-take, eq-eqb, ne_eqb, eqb-true, ltb-true, ltb-false}
+use Rattle.std.proofs.Common.{length-take, length-drop, arith, not-suc-le-zero, take-take, take_all, drop_of_length-le, eq-eqb, ne_eqb}
+use Rattle.std.proofs.Common.{eqb-true, ltb-true, ltb-false}
 use Rattle.std.specs.Cmp.Lexicographic.{pointwise}
 use borrow.Author.Tests.{eqb-false}
 use Rattle.std.specs.Borrow.{Bor}
@@ -153,7 +154,13 @@ pub cuts_last : (text : List ℕ) → 0 < length text → length text ≤ positi
 unfolding lines_of
 cuts_last text h l =
     let all : before lf text ≡ length text = omega (arith, feed_place text, before_within text) in
-    record { lines = last text h all; on = h }
+    record {
+      lines = last text h all;
+      start = take_all (length text) text (omega arith);
+      end = drop_of_length-le text (omega arith);
+      apart = omega arith;
+      on = h;
+    }
 
 last_char : (m : ℕ) (s : List ℕ) → m < length s → drop m (take (suc m) s) ≡ get_or s m 0 ∷ []
 last_char m [] h = absurd (omega arith)
@@ -184,6 +191,16 @@ stop_cr (suc m) s h e =
     let same : cr ≡ get_or s m 0 = sym (eqb-true (get_or s m 0) cr (sym (ends_cr m s (omega arith)) ∙ e)) in
     rw (eq-eqb cr (get_or s m 0) same) (omega arith)
 
+shorter : (b : Bool) (m : ℕ) → cond b m (suc m) ≤ suc m
+shorter true m = omega arith
+shorter false m = omega arith
+
+-- no line goes past its feed
+stop_most : (n : ℕ) (s : List ℕ) → stop_of s n ≤ n
+unfolding stop_of
+stop_most zero s = omega arith
+stop_most (suc m) s = shorter (eqb cr (get_or s m 0)) m
+
 -- the line without a CR at its end, or as it is
 pub stripped : (text : List ℕ) (n : ℕ) (r : Option (Bor (List ℕ))) (d : Bor (List ℕ)) → n ≤ length text → d.now ≡ take n text
     → MatchOption r (pointwise eqb (drop (length (take n text) - 1) (take n text)) (cr ∷ []) ≡ false)
@@ -210,4 +227,12 @@ module _ (text : List ℕ) (n : ℕ) (e : n ≡ position_or_len (eqb lf) text) (
   cuts_fed line q =
       let far : before lf text ≡ n = feed_place text ∙ sym e in
       let first : lines_of text ≡ take (stop_of text n) text ∷ lines_of (drop (suc n) text) = subst (λ (k : ℕ). Cut text k) far (cut text (omega (arith, far))) in
-      record { lines = rw (add-one, q) first; on = omega (arith, length-drop (n + 1) text) }
+      let upto : length line ≡ stop_of text n = ap length q ∙ omega (arith, length-take (stop_of text n) text, stop_most n text) in
+      let past : length text - length (drop (n + 1) text) ≡ n + 1 = omega (arith, length-drop (n + 1) text) in
+      record {
+        lines = rw (add-one, q) first;
+        start = rw upto (sym q);
+        end = rw past;
+        apart = omega (arith, length-drop (n + 1) text, upto, stop_most n text);
+        on = omega (arith, length-drop (n + 1) text);
+      }

@@ -1,13 +1,14 @@
 -- What a line says, test by test.
 -- Assumes nothing.
 use Rattle.std.proofs.Common.{◌≡◌, refl, sym, ap, ◌∙◌, Bool, true, false, true≢false, cond, Option, Some, None, List, [], ◌∷◌, map, ℕ}
-use Rattle.std.proofs.Common.{◌+◌, ◌-◌, ◌*◌, ◌/◌, ◌%◌, ◌≤◌, ◌<◌, eqb, length, get_or, take, drop, length-take, length-drop, arith, eq-eqb}
+use Rattle.std.proofs.Common.{◌+◌, ◌-◌, ◌*◌, ◌/◌, ◌%◌, ◌≤◌, ◌<◌, eqb, length, get_or, take, drop, length-take, length-drop, arith, eq-eqb, drop-drop, take-take}
 use Rattle.std.proofs.Common.{ne_eqb, eqb-true}
+use Rattle.std.proofs.lemmas.List.{drop-take}
 use Rattle.std.specs.Cmp.Lexicographic.{pointwise}
 use Rattle.intelhex.specs.Lines.{lines_of}
 use Rattle.intelhex.specs.Records as format
 use Rattle.intelhex.specs.Records.{all_digits, pair, pairs, formed, fields, count, total, checked, ends, typed, record_of, records}
-use Rattle.intelhex.specs.Meaning.{Says, Cuts, Turn}
+use Rattle.intelhex.specs.Meaning.{Within, Reaches, Says, Cuts, Turn}
 use Rattle.intelhex.specs.declared.line.Bytes.{Bytes}
 use Rattle.intelhex.specs.declared.line.Record.{Record}
 use Rattle.intelhex.specs.declared.line.Record.TheVariants.{Holds, End}
@@ -119,9 +120,19 @@ module _ (s digits : List ℕ) (f : formed s ≡ true) (e : digits ≡ drop 1 s)
     rec_bytes b m a d h z hi lo small =
         let twice : m ≡ 2 * n = omega (arith, h, whole) in
         let many : length b.digits.now ≡ 2 * n = ap length d ∙ omega (arith, length-take m (drop 8 digits), length-drop 8 digits, whole, twice) in
+        let tenth : drop 8 digits ≡ drop 9 s = ap (drop 8) e ∙ drop-drop 8 1 s in
+        let line : length s - 1 ≡ length digits = sym (ap length e ∙ length-drop 1 s) in
         record {
           means = rw (a, d) (sym (form m twice ∙ rw (eq-eqb kind 0 z)));
-          within = (omega (arith, many), omega (arith, a), omega (arith, many));
+          within = (
+            record {
+              place = rw (many, ← twice, ← tenth) (sym d);
+              inside = omega (arith, many, whole, line);
+              each = omega (arith, many);
+              most = omega (arith, many);
+            },
+            omega (arith, a),
+          );
         }
 
     pub rec_end : kind ≡ 1 → n ≡ 0 → high * 256 + low ≡ 0 → Says s (Some End)
@@ -162,11 +173,32 @@ rest_records : (s : List ℕ) → map record_of (lines_of s) ≡ records s
 unfolding records
 rest_records s = refl
 
+-- what stands within the first line of a text stands within the text
+module _ (text line : List ℕ) (start : take (length line) text ≡ line) (h : length line ≤ length text) where
+  within_text : (digits : List ℕ) → Within line digits → Within text digits
+  within_text digits w =
+      let some : length line ≡ 9 + (length line - 9) = omega (arith, w.inside) in
+      let tenth : drop 9 line ≡ take (length line - 9) (drop 9 text) =
+      ap (drop 9) (sym start ∙ ap (λ (k : ℕ). take k text) some) ∙ drop-take 9 (length line - 9) text in
+      let room : length digits ≤ length line - 9 = omega (arith, w.inside) in
+      record {
+        place = sym (take-take (length digits) (length line - 9) (drop 9 text) room) ∙ ap (take (length digits)) (sym tenth) ∙ w.place;
+        inside = omega (arith, w.inside, h);
+        each = w.each;
+        most = w.most;
+      }
+
+  reaches_text : (r : Option Record) → Reaches line r → Reaches text r
+  reaches_text None w = tt
+  reaches_text (Some (Holds b)) w = (within_text b.digits.now w.0, w.1)
+  reaches_text (Some End) w = tt
+
 -- a line cut off, and its record
 pub turn : {text line left : List ℕ} {r : Option Record} → Cuts text line left → Says line r → Turn text r left
 turn {text} {line} {left} {r} c s =
     record {
       means = as_records text line (lines_of left) c.lines ∙ rw (rest_records left) (ap (λ (x : format.Record). x ∷ records left) (sym s.means));
-      within = s.within;
+      within = reaches_text text line c.start (omega (arith, c.apart)) r s.within;
+      end = c.end;
       on = c.on;
     }

@@ -1,5 +1,6 @@
 -- What the code's values say in the words of the format, and what its contracts say.
-use Rattle.std.specs.Prelude.{◌≡◌, true, false, Option, Some, None, Result, Ok, Err, cond, List, [], ◌∷◌, ℕ, zero, suc, ◌*◌, ◌/◌, ◌<◌, eqb, length, get_or, drop}
+use Rattle.std.specs.Prelude.{◌≡◌, true, false, Option, Some, None, Result, Ok, Err, cond, List, [], ◌∷◌, ℕ, zero, suc, ◌+◌, ◌-◌, ◌*◌, ◌/◌, ◌≤◌, ◌<◌}
+use Rattle.std.specs.Prelude.{eqb, length, get_or, take, drop}
 use Rattle.std.specs.Borrow.{Bor}
 use Rattle.lines.specs.Shown.{Lent, SeenLent}
 use Rattle.intelhex.specs.Dump.{Read, told, Written, wrote, trial, named, read_answer, read_image, write_answer, write_out}
@@ -34,26 +35,37 @@ said None = format.bad
 said (Some (Holds b)) = format.holds b.address (pairs b.digits.now)
 said (Some End) = format.end
 
--- two digits for each byte, of which there are at most 255; the address has 16 bits
-abbrev pub Reaches : Option Record → Type 0
-Reaches None = Unit {0}
-Reaches (Some (Holds b)) = (2 * (length b.digits.now / 2) ≡ length b.digits.now) × (b.address < 65536) × (length b.digits.now / 2 < 256)
-Reaches (Some End) = Unit {0}
+-- the digits of a record's bytes are the tenth character of its text and those after it: two for each byte, of which there are at most 255
+pub record Within (text digits : List ℕ) : Type 0 where
+  pub place : take (length digits) (drop 9 text) ≡ digits
+  pub inside : 9 + length digits ≤ length text
+  pub each : 2 * (length digits / 2) ≡ length digits
+  pub most : length digits / 2 < 256
+
+-- its digits stand within the text, which begins with its line; the address has 16 bits
+abbrev pub Reaches : List ℕ → Option Record → Type 0
+Reaches text None = Unit {0}
+Reaches text (Some (Holds b)) = Within text b.digits.now × (b.address < 65536)
+Reaches text (Some End) = Unit {0}
 
 -- a line says the record of a text
 pub record Says (line : List ℕ) (r : Option Record) : Type 0 where
   pub means : said r ≡ format.record_of line
-  pub within : Reaches r
+  pub within : Reaches line r
 
--- a text's first line, and what is left
+-- a text's first line, with which it begins, and what is left, with which it ends
 pub record Cuts (text line left : List ℕ) : Type 0 where
   pub lines : lines_of text ≡ line ∷ lines_of left
+  pub start : take (length line) text ≡ line
+  pub end : drop (length text - length left) text ≡ left
+  pub apart : length line + length left ≤ length text
   pub on : length left < length text
 
--- the first of the records of a text, and what is left after its line
+-- the first of the records of a text, and what is left after its line: the end of the text
 pub record Turn (text : List ℕ) (r : Option Record) (left : List ℕ) : Type 0 where
   pub means : records text ≡ said r ∷ records left
-  pub within : Reaches r
+  pub within : Reaches text r
+  pub end : drop (length text - length left) text ≡ left
   pub on : length left < length text
 
 -- one call of a reader: nothing where nothing is left

@@ -35,7 +35,7 @@ impl ReadError {
         }
     }
 
-    // The line at fault, 0 where there is none.
+    // The line at fault; 0 where there is none, as the printed line and C have it.
     pub fn line(self) -> usize
         ensures { result ≡ (fault_of self).line }
     {
@@ -105,6 +105,7 @@ fn judge(text: &[u8], flags: &mut [u8]) -> Result<(), ReadError>
         if let Err(clash) = mark(flags, usize::from(bytes.address), count) {
             return Err(at_line(clash, line));
         }
+        // Counted by hand: the end record asks `records.left`, which an `enumerate` over the reader would hold.
         line += 1;
     }
     Err(ReadError::NoEnd(line))

@@ -191,7 +191,7 @@ fn try_card<W: Write>(output: &mut W, card: &Card) -> io::Result<()> {
     let report = machine.run(card.steps);
     writeln!(output, "{}", card.what)?;
     show(output, report, &was, &machine)?;
-    if report.answer != 0 {
+    if report.refusal.is_some() {
         return Ok(());
     }
     let back = machine.step_back();

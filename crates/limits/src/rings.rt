@@ -69,7 +69,7 @@ fn show_call<W: Write>(output: &mut W, report: Report, journal: &[u32]) -> io::R
 fn walk_back<W: Write>(output: &mut W, machine: &mut Machine) -> io::Result<()> {
     for done in 0..100 {
         let report = machine.step_back();
-        if report.answer != 0 {
+        if report.refusal.is_some() {
             writeln!(output, "steps back\t{done}")?;
             return shown::show_run(output, report, &machine.cells);
         }

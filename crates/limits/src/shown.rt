@@ -1,5 +1,6 @@
 // What is shown of a machine that had only its subroutine stack set.
 use crate::trial::fresh;
+use bench::answers;
 use bench::at::At;
 use bench::runs::Report;
 use desk::show::{ROOM, put_run, write_text};
@@ -17,12 +18,13 @@ pub(crate) fn show_run<W: Write>(output: &mut W, r: Report, cells: &Cells) -> io
 // A run's answer and where it ends.
 pub(crate) fn show_answer<W: Write>(output: &mut W, r: Report) -> io::Result<()> {
     let Report {
-        answer,
+        refusal,
         steps,
         stores,
-        address,
         at,
     } = r;
+    let answer = answers::number(refusal);
+    let address = answers::address(refusal);
     writeln!(output, "answer\t{answer}\t{steps}\t{stores}\t{address:04X}")?;
     writeln!(output, "pc\t{:04X}", at.pc)
 }

@@ -71,8 +71,7 @@ impl<'a> Machine<'a> {
         );
         self.at = reply.at;
         Report {
-            answer: reply.answer,
-            address: reply.address,
+            refusal: reply.refusal,
             steps: 0,
             stores: reply.stores,
             at: reply.at,

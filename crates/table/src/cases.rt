@@ -1,5 +1,6 @@
 // One case: lines that set the machine, a run, and lines that say all that it must leave.
 use crate::fields;
+use bench::answers;
 use bench::runs::Report;
 use desk::obey::BadLine;
 use desk::show::ROOM;
@@ -43,7 +44,9 @@ fn obey_fields<'a>(
 // Whether the fields after a run have its answer line; the others set the machine that is wanted.
 fn answer_said(fields: &[u8], text: &mut [u8], wanted: &mut Machine, r: Report) -> bool {
     let mut line = [0u8; 80];
-    let count = print::put_answer(&mut line, 0, r.answer, r.steps, r.stores, r.address);
+    let number = answers::number(r.refusal);
+    let address = answers::address(r.refusal);
+    let count = print::put_answer(&mut line, 0, number, r.steps, r.stores, address);
     let answer = &line[..count.saturating_sub(1)];
     let course = obey_fields(fields, answer, text, wanted);
     matches!(course, Ok(Course::End { answered: true }))

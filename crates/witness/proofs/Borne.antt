@@ -8,9 +8,8 @@ use Rattle.rules.proofs.Forget.{drops_plain}
 use Rattle.rules.proofs.Fits.{step_fit, accepted_fits}
 use Rattle.rules.proofs.History.{stepped, back_undoes, fits_after}
 use Rattle.bench.specs.declared.at.At.{At}
-use Rattle.bench.specs.declared.walk.Reply as walk
-use Rattle.bench.specs.declared.runs.Report as runs
-use Rattle.bench.specs.declared.ticks.Ticked.{Ticked}
+use Rattle.bench.specs.Numbers as numbers
+use Rattle.bench.specs.Numbers.{Ticked}
 use Rattle.bench.specs.Meaning.{state_at, Returned, leaves, told, stepping, backing, reported, Heard, replied, heard, ticking, Tells}
 use Rattle.bench.proofs.Steps.{AreBytes, bytes_of}
 use Rattle.bench.proofs.Replies.{accepts, refuses, leads}
@@ -32,7 +31,7 @@ answer : (n : ℕ) → Answer n
 answer zero = is_0 refl
 answer (suc n) = not_0 (λ e. omega arith)
 
-module _ {s : State} {x : Returned walk.Reply} where
+module _ {s : State} {x : Returned numbers.Reply} where
   pub step_bears : (w : Way) → Tells told (stepping w) s x → demanded.Step w s x
   step_bears w e = go (answer x.result.answer)
     where
@@ -77,7 +76,7 @@ module _ (o : List ℕ) (s : State) where
       go true f = rw f (h ∙ output_left (refused a t) q true f)
       go false f = rw f (h ∙ output_left (refused a t) q false f)
 
-pub tick_bears : {o o₁ : List ℕ} {n : ℕ} {s : State} {x : Returned walk.Reply} → Tells told (stepping (tick (length o))) s x
+pub tick_bears : {o o₁ : List ℕ} {n : ℕ} {s : State} {x : Returned numbers.Reply} → Tells told (stepping (tick (length o))) s x
     → n ≡ sent_by (length o) s (step (tick (length o)) s) → o₁ ≡ tick_output o s → Tick o o₁ n s x
 tick_bears {o} {o₁} {n} {s} {x} e q h = record { step = step_bears (tick (length o)) e; output = go (answer x.result.answer) }
   where
@@ -88,7 +87,7 @@ tick_bears {o} {o₁} {n} {s} {x} e q h = record { step = step_bears (tick (leng
 pub ticked_bears : (o : List ℕ) {o₁ : List ℕ} {s : State} {x : Returned Ticked} → Tells (heard o₁) (ticking o) s x → Tick o o₁ x.result.sent s (replied x)
 ticked_bears o e = tick_bears (as_step o e) (ap (λ (h : Heard). h.sent) e.is) (ap (λ (h : Heard). h.output) e.is)
 
-pub run_bears : (n : ℕ) {s : State} {x : Returned runs.Report} → Tells reported (run n) s x → demanded.Run n s x
+pub run_bears : (n : ℕ) {s : State} {x : Returned numbers.Report} → Tells reported (run n) s x → demanded.Run n s x
 run_bears n {s} {x} e = go (fits s.mem) refl
   where
     go : (c : Bool) → fits s.mem ≡ c → demanded.Run n s x
@@ -96,7 +95,7 @@ run_bears n {s} {x} e = go (fits s.mem) refl
     go false f = demanded.unfit f (run_unfit n e f)
 
 -- an accepted step, and the step back from where it led
-pub home_back : {s : State} {x y : Returned walk.Reply} → Good s → Tells told (stepping instruction) s x → x.result.answer ≡ 0 → Tells told backing (leaves x) y
+pub home_back : {s : State} {x y : Returned numbers.Reply} → Good s → Tells told (stepping instruction) s x → x.result.answer ≡ 0 → Tells told backing (leaves x) y
     → Home s (leaves y)
 home_back {s} {x} {y} g e z k =
     let w : Way = instruction in

@@ -4,9 +4,8 @@ use Rattle.std.proofs.Math.ListN.{length-replicate}
 use Rattle.rules.specs.Machine.{pick, State}
 use Rattle.rules.specs.Calls.{Way, instruction, tick, Reply, done, refused, step, step_back, run}
 use Rattle.rules.specs.Demands.{Good, Accepted, Op, forth, aback, instructions, Past, past, tally, history, Demand3}
-use Rattle.bench.specs.declared.walk.Reply as walk
-use Rattle.bench.specs.declared.runs.Report as runs
-use Rattle.bench.specs.declared.ticks.Ticked.{Ticked}
+use Rattle.bench.specs.Numbers as numbers
+use Rattle.bench.specs.Numbers.{Ticked}
 use Rattle.bench.specs.Meaning.{Returned, stands_at, leaves, told, backing, reported, replied, heard, ticking, Tells}
 use Rattle.bench.specs.Promised.{no_call, then_tick, then_back, then_run, count_of, forths, run_ops, past_of, Keeps}
 use Rattle.bench.proofs.Replies.{accepts, refuses}
@@ -29,10 +28,10 @@ at_first g z = record { good = g; empty = z; said = []; called = no_call }
 
 -- ---- one more call
 
-abbrev pub after_run : (n : ℕ) {s₀ s : State} {x : Returned runs.Report} → Tells reported (run n) s x → Led s₀ s → Led s₀ (reported x).end
+abbrev pub after_run : (n : ℕ) {s₀ s : State} {x : Returned numbers.Report} → Tells reported (run n) s x → Led s₀ s → Led s₀ (reported x).end
 after_run n e a = record { good = a.good; empty = a.empty; said = _; called = then_run n a.called e }
 
-abbrev pub after_back : {s₀ s : State} {x : Returned walk.Reply} → Tells told backing s x → Led s₀ s → Led s₀ (leaves x)
+abbrev pub after_back : {s₀ s : State} {x : Returned numbers.Reply} → Tells told backing s x → Led s₀ s → Led s₀ (leaves x)
 after_back e a = record { good = a.good; empty = a.empty; said = _; called = then_back a.called e }
 
 abbrev pub after_tick : (o : List ℕ) {o₁ : List ℕ} {s₀ s : State} {x : Returned Ticked} → Tells (heard o₁) (ticking o) s x → Led s₀ s → Led s₀ (leaves (replied x))
@@ -81,11 +80,11 @@ only_history s₀ (forth instruction ∷ os) s h n k = only_history s₀ os _ _ 
 only_history s₀ (forth (tick m) ∷ os) s h n k = absurd n
 only_history s₀ (aback ∷ os) s h n k = absurd n
 
-pub ran_behind : (n : ℕ) {s₀ : State} {x : Returned runs.Report} → Good s₀ → s₀.mem.used ≡ 0 → Tells reported (run n) s₀ x
+pub ran_behind : (n : ℕ) {s₀ : State} {x : Returned numbers.Report} → Good s₀ → s₀.mem.used ≡ 0 → Tells reported (run n) s₀ x
     → Behind s₀ (instructions x.result.steps) x.result.steps (reported x).end
 ran_behind n {s₀} {x} g z e =
     let a : Led _ _ = after_run n e (at_first g z) in
-    let r : runs.Report = x.result in
+    let r : numbers.Report = x.result in
     let counted : length (past_by a).steps ≡ r.steps = (keeps a).counted ∙ (omega arith) in
     let only : Only (past_by a).steps = only_history s₀ (run_ops r.answer r.steps) s₀ (past [] 0) (run_no_tick (eqb r.answer 0) r.steps) tt in
     record { led = a; steps = only_is (past_by a).steps only ∙ ap instructions counted; most = omega (arith, (held a).within, counted) }
@@ -102,7 +101,7 @@ oldest_off n ws p q =
     one_off (length ws - n) ws ∙ ap (λ (k : ℕ). drop k ws) m
 
 -- of steps ws, n are not taken back
-module _ {s₀ s : State} (ws : List Way) (n : ℕ) {l : ℕ} {x : Returned walk.Reply} (e : Tells told backing s x) (u : Behind s₀ (oldest n ws) l s) where
+module _ {s₀ s : State} (ws : List Way) (n : ℕ) {l : ℕ} {x : Returned numbers.Reply} (e : Tells told backing s x) (u : Behind s₀ (oldest n ws) l s) where
   h : Past
   h = past_by u.led
 

@@ -6,7 +6,7 @@ use Rattle.rules.specs.Calls.{Report, run}
 use Rattle.rules.specs.Reads.{run_reads}
 use Rattle.worn.specs.Worn.{AgreeAt, with_image, Graded}
 use Rattle.worn.proofs.Corners.{worn_corners}
-use Rattle.bench.specs.declared.runs.Report as runs
+use Rattle.bench.specs.Numbers as numbers
 use Rattle.bench.specs.Meaning.{Returned, reported, Tells}
 use Rattle.export.specs.Meaning.{Numbers, heard}
 use Rattle.witness.specs.Hosted.{as_report}
@@ -17,7 +17,7 @@ module _ (n : ℕ) (s : State) (j : List ℕ) (l : length j ≡ length s.mem.ima
   Alike r q = Graded (run_reads n s) s.mem.image j r q
 
   -- `run`
-  pub run_graded : {x y : Returned runs.Report} → Tells reported (run n) s x → Tells reported (run n) (with_image j s) y → Alike (reported x) (reported y)
+  pub run_graded : {x y : Returned numbers.Report} → Tells reported (run n) s x → Tells reported (run n) (with_image j s) y → Alike (reported x) (reported y)
   run_graded {x} f g = subst (Alike (reported x)) (sym g.is) (subst (λ (r : Report). Alike r (run n (with_image j s))) (sym f.is) (worn_corners n s j l e))
 
   -- `argolythe_run`

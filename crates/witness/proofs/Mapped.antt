@@ -7,7 +7,7 @@ use Rattle.rules.specs.Calls.{run}
 use Rattle.rules.specs.Reads.{run_reads, marked, mapped_run, map_left}
 use Rattle.rules.proofs.Tests.{false_true}
 use Rattle.worn.specs.Worn.{among, AgreeAt, with_image, Graded}
-use Rattle.bench.specs.declared.runs.Report as runs
+use Rattle.bench.specs.Numbers as numbers
 use Rattle.bench.specs.Meaning.{Returned, reported, Tells}
 use Rattle.export.specs.Meaning.{Numbers, heard}
 use Rattle.witness.specs.Hosted.{as_report}
@@ -68,7 +68,7 @@ module _ (n : ℕ) (s : State) (z k j : List ℕ) (h : length z ≡ length s.mem
   is_run = rw (eq-eqb (length z) (length s.mem.image) h)
 
   -- `run_mapped`, and `run` over the other
-  pub mapped_graded : {x y : Returned runs.Report} → Tells reported (mapped_run n z) s x → Tells reported (run n) (with_image j s) y
+  pub mapped_graded : {x y : Returned numbers.Report} → Tells reported (mapped_run n z) s x → Tells reported (run n) (with_image j s) y
       → Graded (run_reads n s) s.mem.image j (reported x) (reported y)
   mapped_graded f g = run_graded n s j l agree (record { is = f.is ∙ is_run }) g
 

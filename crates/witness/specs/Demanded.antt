@@ -6,9 +6,7 @@ use Rattle.rules.specs.Calls.{Way, tick, fits, done, tick_sent, step_back, repor
 use Rattle.rules.specs.Demands.{Good, Demand1, BackCause, Demand2, past, Ends, Demand3}
 use Rattle.machine.specs.Meaning.{Lent, Parts, Rest, unmapped}
 use Rattle.bench.specs.declared.at.At.{At}
-use Rattle.bench.specs.declared.walk.Reply.{Reply}
-use Rattle.bench.specs.declared.runs.Report.{Report}
-use Rattle.bench.specs.declared.ticks.Ticked.{Ticked}
+use Rattle.bench.specs.Numbers.{Reply, Report, Ticked}
 use Rattle.witness.specs.declared.Kept.{Kept}
 use Rattle.bench.specs.Meaning.{Returned, returned_by, stands_at, lent_to, leaves, reported, replied}
 use Rattle.bench.specs.Promised.{Said, Called, past_of}

@@ -6,8 +6,7 @@ use Rattle.rules.specs.Machine.{State}
 use Rattle.rules.specs.Calls.{run}
 use Rattle.machine.specs.Meaning.{Lent, SeenLent, Parts, Rest, unmapped}
 use Rattle.bench.specs.declared.at.At.{At}
-use Rattle.bench.specs.declared.walk.Reply.{Reply}
-use Rattle.bench.specs.declared.runs.Report.{Report}
+use Rattle.bench.specs.Numbers.{Reply, Report}
 use Rattle.bench.specs.Meaning.{Returned, returned, returned_by, stands_at, lent_to, Tells}
 use Rattle.bench.specs.Promised.{Said, stepped, ticked, backed, ran}
 use Rattle.export.specs.Meaning.{stands, Numbers, heard, one_step, one_back, bytes_of, shown, named}

@@ -7,13 +7,14 @@ pub mod dumps;
 pub mod hosts;
 pub mod who;
 
-ghost use Rattle.std.specs.Prelude.{◌≡◌, ◌-◌, ◌<◌, eqb};
+ghost use Rattle.std.specs.Prelude.{◌≡◌, true, ◌-◌, ◌<◌};
 ghost use Rattle.rules.specs.Machine.{pick};
 ghost use Rattle.rules.specs.Calls;
 ghost use Rattle.rules.specs.Calls.{instruction};
 ghost use Rattle.rules.specs.Demands.{instructions};
 ghost use Rattle.machine.specs.Meaning.{◌&◌, Groups, Image, Journal, Pad, Regs, Vram};
 ghost use Rattle.bench.specs.Meaning.{memory_of};
+ghost use Rattle.bench.specs.Numbers.{of_reply, of_report, of_ticked};
 ghost use Rattle.witness.specs.Demanded;
 ghost use Rattle.witness.specs.Demanded.{Meets, Ticks, RepliesHome, TakenBack, BackAgain, LedOn, Along, forgetting};
 
@@ -32,7 +33,7 @@ pub fn step(
     journal: &mut [u32],
     at: At,
 ) -> Reply
-    ensures { Meets (Demanded.Step instruction) (Image image & Groups at.writable & Pad pad & Vram vram & Regs regs & Journal journal) at result }
+    ensures { Meets (Demanded.Step instruction) (Image image & Groups at.writable & Pad pad & Vram vram & Regs regs & Journal journal) at (of_reply result) }
 {
     bench::walk::step(image, pad, vram, regs, journal, at)
 }
@@ -47,7 +48,7 @@ pub fn tick(
     at: At,
     output: &mut [u8],
 ) -> Ticked
-    ensures { Meets (Ticks output) (Image image & Groups at.writable & Pad pad & Vram vram & Regs regs & Journal journal) at result }
+    ensures { Meets (Ticks output) (Image image & Groups at.writable & Pad pad & Vram vram & Regs regs & Journal journal) at (of_ticked result) }
 {
     bench::ticks::tick(image, pad, vram, regs, journal, at, output)
 }
@@ -61,7 +62,7 @@ pub fn step_back(
     journal: &mut [u32],
     at: At,
 ) -> Reply
-    ensures { Meets Demanded.Back (Image image & Groups at.writable & Pad pad & Vram vram & Regs regs & Journal journal) at result }
+    ensures { Meets Demanded.Back (Image image & Groups at.writable & Pad pad & Vram vram & Regs regs & Journal journal) at (of_reply result) }
 {
     bench::walk::step_back(image, pad, vram, regs, journal, at)
 }
@@ -76,7 +77,7 @@ pub fn run(
     at: At,
     n: u32,
 ) -> Report
-    ensures { Meets (Demanded.Run n) (Image image & Groups at.writable & Pad pad & Vram vram & Regs regs & Journal journal) at result }
+    ensures { Meets (Demanded.Run n) (Image image & Groups at.writable & Pad pad & Vram vram & Regs regs & Journal journal) at (of_report result) }
 {
     bench::runs::run(image, pad, vram, regs, journal, at, n)
 }
@@ -90,10 +91,10 @@ pub fn there_and_back(
     journal: &mut [u32],
     at: At,
 ) -> Reply
-    ensures { Meets RepliesHome (Image image & Groups at.writable & Pad pad & Vram vram & Regs regs & Journal journal) at result }
+    ensures { Meets RepliesHome (Image image & Groups at.writable & Pad pad & Vram vram & Regs regs & Journal journal) at (of_reply result) }
 {
     let r = bench::walk::step(image, pad, vram, regs, journal, at);
-    if r.answer != 0 {
+    if r.refusal.is_some() {
         return r;
     }
     let there = r.at;
@@ -108,11 +109,11 @@ pub struct Kept {
 }
 
 // One step less where a step back was done.
-fn fewer(steps: u32, answer: u8) -> u32
-    requires { answer ≡ 0 → 0 < steps }
-    ensures { result ≡ pick (eqb answer 0) (steps - 1) steps }
+fn fewer(steps: u32, done: bool) -> u32
+    requires { done ≡ true → 0 < steps }
+    ensures { result ≡ pick done (steps - 1) steps }
 {
-    if answer == 0 { steps - 1 } else { steps }
+    if done { steps - 1 } else { steps }
 }
 
 // So many steps back: those that find no step kept are refused, and change nothing.
@@ -132,7 +133,7 @@ pub fn take_back(
     for _ in 0..n {
         let b = bench::walk::step_back(image, pad, vram, regs, journal, here);
         here = b.at;
-        steps = fewer(steps, b.answer);
+        steps = fewer(steps, b.refusal.is_none());
     }
     Kept { steps, at: here }
 }

@@ -1,5 +1,7 @@
 use Rattle.std.proofs.Common.{◌-◌, ◌<◌, refl, ◌∙◌, sym, arith, rules}
 use Rattle.std.proofs.Math.Nat.{sub-zero}
+use Rattle.bench.specs.Numbers.{answer_of}
+use Rattle.bench.proofs.Refusals.{none_is_0}
 use Rattle.witness.proofs.Counted.{behind_on, fewer_left, all_oldest, count_oldest, none_kept_lem, none_left}
 use Rattle.witness.proofs.take_back.Goals as goal
 
@@ -13,8 +15,9 @@ pub loop-preserved : goal.loop-preserved
 loop-preserved c =
     let inv = c.loop.invariant in
     let left : 0 < c.args.n - c.loop.counter = omega arith in
-    let kept = fewer_left c.step_back-b.result.answer c.fewer-steps.ensures inv.2 in (
-      λ s₀ ws e b. behind_on ws _ (c.step_back-b.ensures _) (inv.0 s₀ ws e b) (omega arith) e inv.3 left inv.2 c.fewer-steps.ensures,
+    let counted = rw (none_is_0 c.step_back-b.result.refusal c.is_none.result c.is_none.ensures) at c.fewer-steps.ensures in
+    let kept = fewer_left (answer_of c.step_back-b.result.refusal).number counted inv.2 in (
+      λ s₀ ws e b. behind_on ws _ (c.step_back-b.ensures _) (inv.0 s₀ ws e b) (omega arith) e inv.3 left inv.2 counted,
       search rules,
       omega (arith, kept.0),
       omega (arith, kept.1, inv.3),

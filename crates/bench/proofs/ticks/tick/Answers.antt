@@ -1,6 +1,8 @@
 -- Test 11 fails, or the tick past it.
-use Rattle.std.proofs.Common.{◌∙◌, sym}
+use Rattle.std.proofs.Common.{◌∙◌, ap, sym}
 use Rattle.rules.proofs.Tests.{both}
+use Rattle.bench.specs.Numbers.{Reply}
+use Rattle.bench.specs.Meaning.{heard_as}
 use Rattle.bench.proofs.Links.{fitting}
 use Rattle.bench.proofs.Steps.{tested}
 use Rattle.bench.proofs.Heard.{tick_unfit, tick_fits}
@@ -8,7 +10,7 @@ use Rattle.bench.proofs.ticks.tick.Goals as goal
 
 pub returns-then-not-fit : goal.returns-then-not-fit
 returns-then-not-fit c =
-    λ _. rw (c.sending.ensures, c.turned_down.ensures) (tick_unfit c.args.output.now
+    λ _. rw (c.sending.ensures ∙ ap (λ (r : Reply). heard_as r 0) c.turned_down.ensures) (tick_unfit c.args.output.now
     (tested c.args.image.now c.args.pad.now c.args.vram.now c.args.regs.now c.args.journal.now
     c.args.at c.all_fit-fit.ensures)
     c.if-not-fit.true)

@@ -23,7 +23,7 @@ pub mark-requires : goal.mark-requires
 mark-requires c =
     let turn = c.in-Some.ensures.steps in
     let reaches = rw (c.in-Some-said.is, c.in-Holds.is) at turn.within in
-    (omega (arith, c.from.ensures, reaches.1), reaches.2)
+    (omega (arith, c.from.ensures, reaches.1), reaches.0.most)
 
 pub returns-in-Err : goal.returns-in-Err
 returns-in-Err c =
