@@ -2,7 +2,7 @@
 ghost use Rattle.std.specs.Prelude.{◌<◌};
 ghost use Rattle.rules.specs.Coincidence;
 ghost use Rattle.rules.specs.Coincidence.{table_byte, table_bit, in_table};
-ghost use Rattle.machine.specs.Meaning.{Does};
+ghost use Rattle.machine.specs.Meaning.{Does, Unwritten};
 
 use machine::answers::Why;
 use machine::memory::Memory;
@@ -12,7 +12,8 @@ use number::{addresses, coincidence, words};
 // Byte k of the table at t.
 #[tactic(auto, using(machine::proofs::Laws::steps), unfolding(rules::specs::Coincidence::table_byte))]
 fn table_byte(m: &mut Machine<'_>, t: u16, k: u16) -> Result<u8, Why>
-    ensures { Does (table_byte t k) m result }
+    ensures does { Does (table_byte t k) m result }
+    ensures words { Unwritten m }
 {
     m.load(Memory::Grom, addresses::plus(t, k) as usize)
 }
@@ -20,7 +21,8 @@ fn table_byte(m: &mut Machine<'_>, t: u16, k: u16) -> Result<u8, Why>
 // Its bit n, counted from the left.
 #[tactic(auto, using(machine::proofs::Laws::steps), unfolding(rules::specs::Coincidence::table_bit))]
 fn table_bit(m: &mut Machine<'_>, t: u16, n: u16) -> Result<bool, Why>
-    ensures { Does (table_bit t n) m result }
+    ensures does { Does (table_bit t n) m result }
+    ensures words { Unwritten m }
 {
     let b = table_byte(m, t, 4 + n / 8)?;
     Ok(coincidence::bit_of(n, b))
@@ -29,7 +31,8 @@ fn table_bit(m: &mut Machine<'_>, t: u16, n: u16) -> Result<bool, Why>
 // The bit inside the table; outside there is none to read.
 #[tactic(auto, using(machine::proofs::Laws::choosing), unfolding(rules::specs::Coincidence::meets))]
 fn meets(m: &mut Machine<'_>, t: u16, rows: u8, columns: u8, y: i16, x: i16) -> Result<bool, Why>
-    ensures { Does (Coincidence.meets t rows columns y x) m result }
+    ensures does { Does (Coincidence.meets t rows columns y x) m result }
+    ensures words { Unwritten m }
 {
     if coincidence::inside(y, rows) && coincidence::inside(x, columns) {
         let n = coincidence::bit_number(columns, y as u8, x as u8);
@@ -43,7 +46,8 @@ fn meets(m: &mut Machine<'_>, t: u16, rows: u8, columns: u8, y: i16, x: i16) -> 
 #[tactic(auto, using(machine::proofs::Laws::steps), unfolding(rules::specs::Coincidence::in_table))]
 pub fn in_table(m: &mut Machine<'_>, t: u16, g: u16, a: u16, b: u16) -> Result<bool, Why>
     requires { g < 8 }
-    ensures { Does (in_table t g a b) m result }
+    ensures does { Does (in_table t g a b) m result }
+    ensures words { Unwritten m }
 {
     let rows = table_byte(m, t, 0)?;
     let columns = table_byte(m, t, 1)?;

@@ -173,6 +173,10 @@ LentMachine = Both (MutBor Machine) (MutBor Machine)
 abbrev pub Does : {A : Type 0} → Rule A → LentMachine → Result A Why → Type 0
 Does r m result = Leads r m.entry.now m.exit.now result
 
+-- no word of the journal is written: in a ring `mem_in` leaves open what a step has laid over and its end will drop, and a function that only reads keeps that too
+abbrev pub Unwritten : LentMachine → Type 0
+Unwritten m = m.exit.now.journal.now ≡ m.entry.now.journal.now
+
 -- the same with other memories
 abbrev pub with_mem : State → Mem → State
 with_mem s m = record s { rest = record s.rest { mem = m } }

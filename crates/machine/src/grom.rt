@@ -2,7 +2,7 @@
 ghost use Rattle.std.specs.Prelude.{◌≡◌, ◌/◌};
 ghost use Rattle.rules.specs.Machine.{bit, group};
 ghost use Rattle.rules.specs.Rules.{next_byte, next_word};
-ghost use Rattle.machine.specs.Meaning.{Does};
+ghost use Rattle.machine.specs.Meaning.{Does, Unwritten};
 
 use crate::answers::Why;
 use crate::memory::Memory;
@@ -12,7 +12,8 @@ use number::{addresses, words};
 impl Machine<'_> {
     #[tactic(auto, using(crate::proofs::Laws::steps, crate::proofs::Acts::reading))]
     pub fn next_byte(&mut self) -> Result<u8, Why>
-        ensures { Does next_byte self result }
+        ensures does { Does next_byte self result }
+        ensures words { Unwritten self }
     {
         let b = self.load(Memory::Grom, self.pc as usize)?;
         self.pc = addresses::onward(self.pc);
@@ -21,7 +22,8 @@ impl Machine<'_> {
 
     #[tactic(auto, using(crate::proofs::Laws::steps), unfolding(rules::specs::Rules::next_word))]
     pub fn next_word(&mut self) -> Result<u16, Why>
-        ensures { Does next_word self result }
+        ensures does { Does next_word self result }
+        ensures words { Unwritten self }
     {
         let high = self.next_byte()?;
         let low = self.next_byte()?;

@@ -5,7 +5,7 @@ ghost use Rattle.rules.specs.Answers.{answer_for};
 ghost use Rattle.rules.specs.Journal.{kind_number};
 ghost use Rattle.rules.specs.Rules.{peek, peek_word, poke};
 ghost use Rattle.rules.specs.Operands.{poke_word};
-ghost use Rattle.machine.specs.Meaning.{why_of, kind_of, extent_of, may_store, byte_in, IsNear, Does, MarksIn, PutsIn, LaysIn};
+ghost use Rattle.machine.specs.Meaning.{why_of, kind_of, extent_of, may_store, byte_in, IsNear, Does, Unwritten, MarksIn, PutsIn, LaysIn};
 
 use crate::answers::Why;
 use crate::state::Machine;
@@ -98,7 +98,8 @@ impl Machine<'_> {
 
     // A byte of the image is marked where it is read.
     fn mark(&mut self, k: Memory, at: usize)
-        ensures { MarksIn k at self }
+        ensures marks { MarksIn k at self }
+        ensures words { Unwritten self }
     {
         match k {
             Memory::Cpu | Memory::Vdp | Memory::Register => {}
@@ -121,7 +122,8 @@ impl Machine<'_> {
 
     #[inline]
     pub fn load(&mut self, k: Memory, at: usize) -> Result<u8, Why>
-        ensures { Does (peek (kind_of k) at) self result }
+        ensures does { Does (peek (kind_of k) at) self result }
+        ensures words { Unwritten self }
     {
         if at < self.reach(k) {
             let b = self.byte(k, at);
@@ -135,7 +137,8 @@ impl Machine<'_> {
     #[tactic(auto, using(crate::proofs::Laws::steps), unfolding(rules::specs::Rules::peek_word))]
     pub fn load_word(&mut self, k: Memory, at: usize) -> Result<u16, Why>
         requires { at < 2 ^ 32 }
-        ensures { Does (peek_word (kind_of k) at) self result }
+        ensures does { Does (peek_word (kind_of k) at) self result }
+        ensures words { Unwritten self }
     {
         let high = self.load(k, at)?;
         let low = self.load(k, at + 1)?;

@@ -2,7 +2,7 @@
 ghost use Rattle.std.specs.Prelude.{◌≡◌, ◌+◌, ◌≤◌, true, IfOk};
 ghost use Rattle.rules.specs.Operands;
 ghost use Rattle.rules.specs.Operands.{on_data_stack, operand_of};
-ghost use Rattle.machine.specs.Meaning.{valued, Does};
+ghost use Rattle.machine.specs.Meaning.{valued, Does, Unwritten};
 ghost use Rattle.operand.specs.Meaning.{cell_of};
 
 use crate::places::Place;
@@ -35,7 +35,8 @@ fn offset(m: &mut Machine<'_>, aaaa: u8) -> Result<u16, Why>
 
 #[tactic(auto, using(machine::proofs::Laws::steps), unfolding(rules::specs::Operands::add_index))]
 fn add_index(m: &mut Machine<'_>, a: u16) -> Result<u16, Why>
-    ensures { Does (Operands.add_index a) m result }
+    ensures does { Does (Operands.add_index a) m result }
+    ensures words { Unwritten m }
 {
     let x = m.next_byte()?;
     let w = m.load_word(Memory::Cpu, x as usize)?;
@@ -45,7 +46,8 @@ fn add_index(m: &mut Machine<'_>, a: u16) -> Result<u16, Why>
 // With X, a pad word is added, before any indirection.
 #[tactic(auto, using(machine::proofs::Laws::choosing), unfolding(rules::specs::Operands::indexed))]
 pub fn indexed(m: &mut Machine<'_>, x: bool, a: u16) -> Result<u16, Why>
-    ensures { Does (Operands.indexed x a) m result }
+    ensures does { Does (Operands.indexed x a) m result }
+    ensures words { Unwritten m }
 {
     if x { add_index(m, a) } else { Ok(a) }
 }

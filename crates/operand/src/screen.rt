@@ -1,7 +1,7 @@
 // The screen: the position that row and column name, the byte there, and the character buffer.
 ghost use Rattle.std.specs.Prelude.{◌<◌, IfOk};
 ghost use Rattle.rules.specs.Operands;
-ghost use Rattle.machine.specs.Meaning.{Does};
+ghost use Rattle.machine.specs.Meaning.{Does, Unwritten};
 
 use machine::answers::Why;
 use machine::cells;
@@ -13,6 +13,7 @@ use machine::state::Machine;
 pub fn position(m: &mut Machine<'_>) -> Result<u16, Why>
     ensures bound { IfOk result (λ p. p < 8192) }
     ensures does { Does Operands.position m result }
+    ensures words { Unwritten m }
 {
     let row = m.load(Memory::Cpu, cells::ROW)?;
     let column = m.load(Memory::Cpu, cells::COLUMN)?;
@@ -21,7 +22,8 @@ pub fn position(m: &mut Machine<'_>) -> Result<u16, Why>
 
 #[tactic(auto, using(machine::proofs::Laws::steps), unfolding(rules::specs::Operands::screen_byte))]
 pub fn screen_byte(m: &mut Machine<'_>) -> Result<u8, Why>
-    ensures { Does Operands.screen_byte m result }
+    ensures does { Does Operands.screen_byte m result }
+    ensures words { Unwritten m }
 {
     let p = position(m)?;
     m.load(Memory::Vdp, p as usize)

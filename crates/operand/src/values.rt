@@ -3,7 +3,7 @@ ghost use Rattle.std.specs.Prelude.{◌≡◌, ◌-◌, ◌<◌, ◌≤◌, IfOk
 ghost use Rattle.rules.specs.Operands;
 ghost use Rattle.rules.specs.Operands.{byte_count, past, is_buffer};
 ghost use Rattle.rules.specs.Arithmetic.{half, span};
-ghost use Rattle.machine.specs.Meaning.{Does};
+ghost use Rattle.machine.specs.Meaning.{Does, Unwritten};
 ghost use Rattle.operand.specs.Meaning.{cell_of};
 
 use crate::places::Place;
@@ -26,6 +26,7 @@ pub fn byte_count(wide: bool) -> usize
 pub fn standing(m: &mut Machine<'_>, wide: bool, place: Place) -> Result<u16, Why>
     ensures bound { IfOk result (λ v. v < span (half wide)) }
     ensures does { Does (Operands.standing wide (cell_of place)) m result }
+    ensures words { Unwritten m }
 {
     let at = place.at() as usize;
     if wide {
@@ -116,6 +117,7 @@ pub fn operand_value(m: &mut Machine<'_>, wide: bool) -> Result<u16, Why>
 pub fn immediate(m: &mut Machine<'_>, wide: bool) -> Result<u16, Why>
     ensures bound { IfOk result (λ v. v < span (half wide)) }
     ensures does { Does (Operands.immediate wide) m result }
+    ensures words { Unwritten m }
 {
     if wide {
         return m.next_word();

@@ -1,7 +1,7 @@
 // A block of a list: its bytes and the count, or a new address.
 ghost use Rattle.rules.specs.Sound;
 ghost use Rattle.rules.specs.Sound.{send_block};
-ghost use Rattle.machine.specs.Meaning.{valued, Does};
+ghost use Rattle.machine.specs.Meaning.{valued, Does, Unwritten};
 ghost use Rattle.sound.specs.Meaning.{Plays, room_left, due_of};
 
 use crate::list;
@@ -32,7 +32,8 @@ fn send_block(
     a: u16,
     n: u8,
 ) -> Result<Due, Why>
-    ensures { Plays (send_block (room_left output) source a n) m output (valued due_of result) }
+    ensures does { Plays (send_block (room_left output) source a n) m output (valued due_of result) }
+    ensures words { Unwritten m }
 {
     let width = n as u16;
     list::send_bytes(m, output, source, addresses::plus(a, 1), n)?;
@@ -47,7 +48,8 @@ fn send_block(
 // A new address, in one source or the other.
 #[tactic(auto, using(machine::proofs::Laws::steps), unfolding(rules::specs::Sound::leap))]
 fn leap(m: &mut Machine<'_>, source: bool, a: u16, to: bool) -> Result<Due, Why>
-    ensures { Does (Sound.leap source a to) m (valued due_of result) }
+    ensures does { Does (Sound.leap source a to) m (valued due_of result) }
+    ensures words { Unwritten m }
 {
     let high = list::list_byte(m, source, addresses::plus(a, 1))?;
     let low = list::list_byte(m, source, addresses::plus(a, 2))?;
@@ -67,7 +69,8 @@ pub fn block(
     a: u16,
     n: u8,
 ) -> Result<Due, Why>
-    ensures { Plays (Sound.block (room_left output) source a n) m output (valued due_of result) }
+    ensures does { Plays (Sound.block (room_left output) source a n) m output (valued due_of result) }
+    ensures words { Unwritten m }
 {
     if n == SAME {
         return leap(m, source, a, source);

@@ -1,7 +1,7 @@
 // The bytes of a list: read from GROM or from VDP RAM, and sent to a lent output.
 ghost use Rattle.std.specs.Prelude.{◌≡◌, ◌+◌, IfOk};
 ghost use Rattle.rules.specs.Sound.{list_byte, send_next, send_bytes};
-ghost use Rattle.machine.specs.Meaning.{Does};
+ghost use Rattle.machine.specs.Meaning.{Does, Unwritten};
 ghost use Rattle.sound.specs.Meaning.{Sends, Plays, room_left};
 
 use machine::answers::Why;
@@ -33,7 +33,8 @@ impl Output<'_> {
 // A byte of a list.
 #[tactic(auto, using(machine::proofs::Laws::choosing), unfolding(rules::specs::Sound::list_byte))]
 pub fn list_byte(m: &mut Machine<'_>, source: bool, a: u16) -> Result<u8, Why>
-    ensures { Does (list_byte source a) m result }
+    ensures does { Does (list_byte source a) m result }
+    ensures words { Unwritten m }
 {
     let memory = if source { Memory::Vdp } else { Memory::Grom };
     m.load(memory, a as usize)
@@ -44,6 +45,7 @@ pub fn list_byte(m: &mut Machine<'_>, source: bool, a: u16) -> Result<u8, Why>
 fn send_next(m: &mut Machine<'_>, output: &mut Output<'_>, source: bool, a: u16) -> Result<(), Why>
     ensures one { IfOk result (λ _. output.new.sent ≡ output.old.sent + 1) }
     ensures does { Plays (send_next (room_left output) source a) m output result }
+    ensures words { Unwritten m }
 {
     let b = list_byte(m, source, a)?;
     output.send(b)
@@ -58,7 +60,8 @@ pub fn send_bytes(
     a: u16,
     n: u8,
 ) -> Result<(), Why>
-    ensures { Plays (send_bytes (room_left output) source a n) m output result }
+    ensures does { Plays (send_bytes (room_left output) source a n) m output result }
+    ensures words { Unwritten m }
 {
     let mut at = a;
     for _ in 0..n {

@@ -6,9 +6,14 @@ use Rattle.machine.proofs.state.Machine.load.Goals as goal
 
 pub returns-then-at-reach : goal.returns-then-at-reach
 unfolding rest_of
-returns-then-at-reach c =
-    (rw (c.byte-b.ensures, c.mark.ensures.0) (peeked c.args.k _ _ (omega (arith, c.reach.ensures, c.if-at-reach.true))), c.mark.ensures.1)
+returns-then-at-reach c = record {
+  does = (
+    rw (c.byte-b.ensures, c.mark.ensures.marks.0) (peeked c.args.k _ _ (omega (arith, c.reach.ensures, c.if-at-reach.true))),
+    c.mark.ensures.marks.1,
+  );
+  words = c.mark.ensures.words;
+}
 
 pub returns : goal.returns
 unfolding rest_of
-returns c = (rw c.outside.ensures (peek_far c.args.k _ _ (omega (arith, c.reach.ensures, c.if-at-reach.false))), refl)
+returns c = record { does = (rw c.outside.ensures (peek_far c.args.k _ _ (omega (arith, c.reach.ensures, c.if-at-reach.false))), refl); words = refl }

@@ -5,4 +5,4 @@ use Rattle.machine.proofs.state.Machine.mark.Goals as goal
 
 pub returns-in-Grom : goal.returns-in-Grom
 unfolding rest_of kept
-returns-in-Grom c = rw (c.in-Grom.is, c.put.ensures) (refl, rw (length-set _ _ _) refl)
+returns-in-Grom c = record { marks = rw (c.in-Grom.is, c.put.ensures) (refl, rw (length-set _ _ _) refl); words = refl }
