@@ -1,6 +1,7 @@
 -- The refusals in numbers: none has the number of another, nor 0, and so each can be read off its number and its address.
 use Rattle.std.specs.Option.{is_some}
 use Rattle.std.proofs.Common.{◌≡◌, refl, ◌∙◌, ap, sym, Bool, true, false, not, Option, None, Some, ℕ, arith, eqb, ne_eqb}
+use Rattle.rules.specs.Answers.{number}
 use Rattle.rules.specs.Machine.{pick}
 use Rattle.rules.proofs.Tests.{false_true}
 use Rattle.rules.proofs.Opcodes.{never_done}
@@ -12,12 +13,30 @@ use Rattle.bench.specs.declared.walk.Reply as walk
 use Rattle.bench.specs.declared.runs.Report as runs
 use Rattle.bench.specs.declared.ticks.Ticked as ticks
 use Rattle.bench.specs.Numbers as numbers
-use Rattle.bench.specs.Numbers.{answer_of, of_reply, of_report, of_ticked}
+use Rattle.bench.specs.Numbers.{numbered, answer_of, of_reply, of_report, of_ticked}
 use Rattle.bench.specs.Meaning.{Returned, returned}
+
+-- the rules give it the same number
+pub numbered_is : (why : Why) → numbered why ≡ number (why_of why)
+numbered_is Ended = refl
+numbered_is NoSuch = refl
+numbered_is NeedsHost = refl
+numbered_is (OffCpu a) = refl
+numbered_is (OffVdp a) = refl
+numbered_is (OffGrom a) = refl
+numbered_is OffStack = refl
+numbered_is TooLong = refl
+numbered_is NoRoom = refl
+numbered_is WrongLength = refl
+numbered_is NoRecord = refl
+numbered_is OffRegister = refl
+numbered_is TooCoarse = refl
+numbered_is ReadOnly = refl
+numbered_is OutputFull = refl
 
 pub some_refused : (r : Option Why) → is_some r ≡ true → (answer_of r).number ≡ 0 → ⊥
 some_refused None e z = absurd (false_true e)
-some_refused (Some why) e z = omega (arith, never_done (why_of why), z)
+some_refused (Some why) e z = omega (arith, never_done (why_of why), numbered_is why, z)
 
 pub none_done : (r : Option Why) → is_some r ≡ false → (answer_of r).number ≡ 0
 none_done None e = refl
