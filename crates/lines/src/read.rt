@@ -1,5 +1,5 @@
 // What a line of the input says.
-ghost use Rattle.std.specs.Prelude.{◌≡◌, ◌+◌, ◌/◌, ◌≤◌, length};
+ghost use Rattle.std.specs.Prelude.{◌≡◌, ◌+◌, ◌*◌, ◌/◌, ◌≤◌, length, take, drop};
 ghost use Rattle.lines.specs.Digits.{bytes, laid};
 ghost use Rattle.lines.specs.Lines;
 ghost use Rattle.lines.specs.Lines.{set_line, jumping, running, go_line, line_of};
@@ -28,12 +28,27 @@ impl Bytes<'_> {
         requires { self.at + length self.digits.now / 2 ≤ length part.old }
         ensures { part.new ≡ laid part.old self.entry.at (bytes self.entry.digits.now) }
     {
-        let first = usize::from(self.at);
-        for (i, pair) in self.digits.chunks_exact(2).enumerate() {
-            let cell = first + i;
-            part[cell] = byte_of(pair[0], pair[1]);
-        }
+        lay_digits(self.digits, part, usize::from(self.at));
     }
+}
+
+// The bytes that digits say, two by two, put into a part from a cell on.
+fn lay_digits(digits: &[u8], part: &mut [u8], first: usize)
+    requires { first + length digits.now / 2 ≤ length part.old }
+    ensures { part.new ≡ laid part.old first (bytes digits.now) }
+{
+    for (i, pair) in digits.chunks_exact(2).enumerate() {
+        let cell = first + i;
+        part[cell] = byte_of(pair[0], pair[1]);
+    }
+}
+
+// So many bytes, whose digits stand in a text from a place on, put into a part from a cell on.
+pub fn set_bytes(text: &[u8], from: usize, count: usize, part: &mut [u8], at: usize)
+    requires { (from + 2 * count ≤ length text.now) × (at + count ≤ length part.old) }
+    ensures { part.new ≡ laid part.old at (bytes (take (2 * count) (drop from text.now))) }
+{
+    lay_digits(&text[from..from + 2 * count], part, at);
 }
 
 // A line of bytes, from its address on.

@@ -1,6 +1,7 @@
+-- Each turn lays a pair; at the end fewer than two digits are left.
 use Rattle.std.proofs.Common.{sym, ◌∙◌, length-set, arith, add_assoc}
 use Rattle.lines.proofs.Overlay.{pair_off, bytes_on, bytes_end}
-use Rattle.lines.proofs.read.Bytes.lay.Goals as goal
+use Rattle.lines.proofs.read.lay_digits.Goals as goal
 
 pub loop-i-preserved : goal.loop-i-preserved
 loop-i-preserved c =
@@ -17,4 +18,4 @@ pub returns : goal.returns
 returns c =
     let past = c.in-None.ensures.steps in
     let kept = c.loop-i.invariant in
-    sym (rw c.from-first.ensures at kept.0 ∙ bytes_end _ _ _ (omega (arith, past.0.1.0, kept.1)))
+    sym (kept.0 ∙ bytes_end _ _ _ (omega (arith, past.0.1.0, kept.1)))
