@@ -91,6 +91,12 @@ abbrev pub Finds : Bool → List ℕ → ℕ → Option Span → Type 0
 Finds ended text at (Some l) = Heads ended text at l.end l.next
 Finds ended text at None = Waits ended (drop at text)
 
+-- the first bytes of a buffer are a text and perhaps more
+pub record Grows (text buffer : List ℕ) (count : ℕ) : Type 0 where
+  pub keeps : take (length text) buffer ≡ text
+  pub more : length text ≤ count
+  pub fits : count ≤ length buffer
+
 -- ---- an input obeyed
 
 -- so many lines were obeyed, of what was read a text is left, and the machine is in a state

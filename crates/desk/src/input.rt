@@ -1,7 +1,10 @@
-// The lines of an input, found in what was read of it.
-ghost use Rattle.std.specs.Prelude.{◌≡◌, ◌+◌, ◌≤◌, length};
+// An input, piece by piece: its lines, found in what was read of it, and more of it read.
+ghost use Rattle.std.specs.Prelude.{◌≡◌, ◌+◌, ◌-◌, ◌<◌, ◌≤◌, length, take, drop, IfOk, OnErr};
 ghost use Rattle.desk.specs.Bytes.{index_of, slice};
-ghost use Rattle.desk.specs.Meaning.{Finds};
+ghost use Rattle.desk.specs.Meaning.{Finds, Grows};
+
+use std::io;
+use std::io::Read;
 
 // A `grom` line for the whole image has so many bytes. No longer line says anything.
 pub const LONGEST: usize = 65546;
@@ -47,4 +50,30 @@ pub fn line_at(text: &[u8], at: usize, ended: bool) -> Option<Span>
         return None;
     }
     Some(Span { end, next: end })
+}
+
+// The bytes from a place on, moved to the front.
+pub(crate) fn to_front(text: &mut [u8], from: usize, have: usize)
+    requires { (from ≤ have) × (have ≤ length text.old) }
+    ensures { take (have - from) text.new ≡ drop from (take have text.old) }
+{
+    text.copy_within(from..have, 0);
+}
+
+// What is left is moved to the front, and more is read after it. There is room for a byte: where there are no more than before, the input has ended.
+// Where the read fails, what is left is at the front all the same.
+pub fn refill<R: Read>(
+    input: &mut R,
+    text: &mut [u8],
+    from: usize,
+    have: usize,
+) -> io::Result<usize>
+    requires { (from ≤ have) × (have ≤ length text.old) × (have - from < length text.old) }
+    ensures ok { IfOk result (λ n. Grows (drop from (take have text.old)) text.new n) }
+    ensures err { OnErr result (Grows (drop from (take have text.old)) text.new (have - from)) }
+{
+    to_front(text, from, have);
+    let kept = have - from;
+    let got = input.read(&mut text[kept..])?;
+    Ok(kept + got)
 }

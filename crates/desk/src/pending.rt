@@ -2,6 +2,7 @@
 ghost use Rattle.std.specs.Prelude.{◌≡◌, List, [], ℕ, ◌<◌, ◌≤◌, length, take, drop, IfOk, OnErr};
 ghost use Rattle.desk.specs.Bytes.{Gains};
 
+use crate::input::to_front;
 use std::io;
 use std::io::Read;
 use std::marker::Model;
@@ -55,7 +56,7 @@ impl<const N: usize> Pending<N> {
         requires { n ≤ length self.old }
         ensures { self.new ≡ drop n self.old }
     {
-        self.text.copy_within(n..self.len, 0);
+        to_front(&mut self.text, n, self.len);
         self.len -= n;
     }
 }
