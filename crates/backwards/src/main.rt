@@ -6,7 +6,10 @@ use bench::runs::Report;
 use bench::viewer::Memory;
 use bench::walk::Reply;
 use bench::{answers, runs, viewer, walk};
+use desk::show::write_text;
 use desk::state::{Cells, first};
+use lines::parts::Part;
+use lines::print;
 use std::io;
 use std::io::Write;
 
@@ -90,17 +93,31 @@ fn show_answer<W: Write>(
     stores: u64,
     address: u16,
 ) -> io::Result<()> {
-    writeln!(output, "answer\t{answer}\t{steps}\t{stores}\t{address:04X}")
+    let mut out = [0; 75];
+    let count = print::put_answer(&mut out, 0, answer, steps, stores, address);
+    write_text(output, &out, count)
+}
+
+fn show_pc<W: Write>(output: &mut W, pc: u16) -> io::Result<()> {
+    let mut out = [0; 8];
+    let count = print::put_pc(&mut out, 0, pc);
+    write_text(output, &out, count)
+}
+
+fn show_cell<W: Write>(output: &mut W, part: Part, at: u16, byte: u8) -> io::Result<()> {
+    let mut out = [0; 13];
+    let count = print::put_cell(&mut out, 0, part, at, byte);
+    write_text(output, &out, count)
 }
 
 // pc, and pad >00 and the first three screen bytes as the viewer shows them.
 fn show_place<W: Write>(output: &mut W, machine: &Machine) -> io::Result<()> {
-    writeln!(output, "pc\t{:04X}", machine.at.pc)?;
+    show_pc(output, machine.at.pc)?;
     for byte in machine.view(Memory::Cpu, 1) {
-        writeln!(output, "pad\t00\t{byte:02X}")?;
+        show_cell(output, Part::Pad, 0, *byte)?;
     }
-    for (at, byte) in machine.view(Memory::Vdp, 3).iter().enumerate() {
-        writeln!(output, "vdp\t{at:04X}\t{byte:02X}")?;
+    for (at, byte) in (0..3).zip(machine.view(Memory::Vdp, 3)) {
+        show_cell(output, Part::Vdp, at, *byte)?;
     }
     Ok(())
 }

@@ -54,7 +54,7 @@ const EACH: [u8; 40] = [
 
 // The code of a card, the groups that it may write, and how many steps it makes.
 struct Card {
-    what: &'static str,
+    what: &'static [u8],
     code: &'static [u8],
     room: Room,
     writable: u8,
@@ -63,98 +63,98 @@ struct Card {
 
 const CARDS: [Card; 14] = [
     Card {
-        what: "two groups, >02 writable",
+        what: b"two groups, >02 writable\n",
         code: &TO_2000,
         room: TWO,
         writable: 0x02,
         steps: 1,
     },
     Card {
-        what: "none writable: 24",
+        what: b"none writable: 24\n",
         code: &TO_2000,
         room: TWO,
         writable: 0x00,
         steps: 1,
     },
     Card {
-        what: "all but that one writable, four words: 24 before 10",
+        what: b"all but that one writable, four words: 24 before 10\n",
         code: &TO_2000,
         room: TIGHT,
         writable: 0xFD,
         steps: 1,
     },
     Card {
-        what: ">02 writable, four words: 10",
+        what: b">02 writable, four words: 10\n",
         code: &TO_2000,
         room: TIGHT,
         writable: 0x02,
         steps: 1,
     },
     Card {
-        what: "four groups, none writable, to >FFFF: 6 before 24",
+        what: b"four groups, none writable, to >FFFF: 6 before 24\n",
         code: &ONE_TO_FFFF,
         room: FOUR,
         writable: 0x00,
         steps: 1,
     },
     Card {
-        what: "two groups, all writable, four words, to >FFFF: 6 before 10",
+        what: b"two groups, all writable, four words, to >FFFF: 6 before 10\n",
         code: &ONE_TO_FFFF,
         room: TIGHT,
         writable: 0xFF,
         steps: 1,
     },
     Card {
-        what: ">01 writable, to >1FFF: 24 at the second byte",
+        what: b">01 writable, to >1FFF: 24 at the second byte\n",
         code: &TO_1FFF,
         room: TWO,
         writable: 0x01,
         steps: 1,
     },
     Card {
-        what: ">02 writable, to >3FFF: 6 at the second byte",
+        what: b">02 writable, to >3FFF: 6 at the second byte\n",
         code: &TO_3FFF,
         room: TWO,
         writable: 0x02,
         steps: 1,
     },
     Card {
-        what: "eight groups, >81 writable, to >FFFF and >0000",
+        what: b"eight groups, >81 writable, to >FFFF and >0000\n",
         code: &TO_FFFF,
         room: EIGHT,
         writable: 0x81,
         steps: 1,
     },
     Card {
-        what: "eight groups, >80 writable: 24 at >0000",
+        what: b"eight groups, >80 writable: 24 at >0000\n",
         code: &TO_FFFF,
         room: EIGHT,
         writable: 0x80,
         steps: 1,
     },
     Card {
-        what: "a MOVE that reads what it wrote",
+        what: b"a MOVE that reads what it wrote\n",
         code: &TO_0101,
         room: TWO,
         writable: 0x01,
         steps: 1,
     },
     Card {
-        what: "a card that rewrites its next instruction",
+        what: b"a card that rewrites its next instruction\n",
         code: &OWN_NEXT,
         room: TWO,
         writable: 0x01,
         steps: 1,
     },
     Card {
-        what: "and runs the new one",
+        what: b"and runs the new one\n",
         code: &OWN_NEXT,
         room: TWO,
         writable: 0x01,
         steps: 2,
     },
     Card {
-        what: "each MOVE into GROM",
+        what: b"each MOVE into GROM\n",
         code: &EACH,
         room: TWO,
         writable: 0x02,
@@ -189,13 +189,13 @@ fn try_card<W: Write>(output: &mut W, card: &Card) -> io::Result<()> {
     };
     let mut machine = Machine::new(&mut image[..room.image], &mut journal[..room.journal], at);
     let report = machine.run(card.steps);
-    writeln!(output, "{}", card.what)?;
+    output.write_all(card.what)?;
     show(output, report, &was, &machine)?;
     if report.refusal.is_some() {
         return Ok(());
     }
     let back = machine.step_back();
-    writeln!(output, "and a step back")?;
+    output.write_all(b"and a step back\n")?;
     show(output, back, &was, &machine)
 }
 

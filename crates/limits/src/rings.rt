@@ -36,7 +36,7 @@ fn ring_at(pc: u16) -> At {
 // So many steps and then so many steps back, each with the journal that it leaves, of N words.
 fn try_calls<W: Write, const N: usize>(
     output: &mut W,
-    what: &str,
+    what: &[u8],
     from: At,
     steps: u32,
     backs: u32,
@@ -47,7 +47,7 @@ fn try_calls<W: Write, const N: usize>(
     let mut journal = [0; N];
     lay(&mut image, &[(0, &LOOP)]);
     let mut machine = Machine::new(&mut image, &mut journal, from);
-    writeln!(output, "{what}")?;
+    output.write_all(what)?;
     for _ in 0..steps {
         let report = machine.run(1);
         show_call(output, report, machine.journal)?;
@@ -70,7 +70,7 @@ fn walk_back<W: Write>(output: &mut W, machine: &mut Machine) -> io::Result<()> 
     for done in 0..100 {
         let report = machine.step_back();
         if report.refusal.is_some() {
-            writeln!(output, "steps back\t{done}")?;
+            shown::show_number(output, b"steps back\t", done)?;
             return shown::show_run(output, report, &machine.cells);
         }
     }
@@ -80,7 +80,7 @@ fn walk_back<W: Write>(output: &mut W, machine: &mut Machine) -> io::Result<()> 
 // 30 steps of the title screen, and back; `last` is the code where it ends.
 fn try_title<W: Write, const N: usize>(
     output: &mut W,
-    what: &str,
+    what: &[u8],
     last: [u8; 2],
     ring: bool,
 ) -> io::Result<()>
@@ -92,7 +92,7 @@ fn try_title<W: Write, const N: usize>(
     let at = At { ring, ..first() };
     let mut machine = Machine::new(&mut image, &mut journal, at);
     let report = machine.run(30);
-    writeln!(output, "{what}")?;
+    output.write_all(what)?;
     shown::show_answer(output, report)?;
     shown::show_kept(output, report.at)?;
     walk_back(output, &mut machine)
@@ -100,30 +100,30 @@ fn try_title<W: Write, const N: usize>(
 
 // BACK takes two words, FMT 237, and BR two.
 fn titles<W: Write>(output: &mut W) -> io::Result<()> {
-    let one = "a title screen, 237 words: BACK is dropped";
+    let one = b"a title screen, 237 words: BACK is dropped\n";
     try_title::<W, 237>(output, one, ENDS, true)?;
-    try_title::<W, 237>(output, "the same, no ring: FMT is 10", ENDS, false)?;
-    let short = "236 words: FMT is 10, and BACK is lost";
+    try_title::<W, 237>(output, b"the same, no ring: FMT is 10\n", ENDS, false)?;
+    let short = b"236 words: FMT is 10, and BACK is lost\n";
     try_title::<W, 236>(output, short, ENDS, true)?;
-    try_title::<W, 1024>(output, "drawn ten times, 1024 words", AGAIN, true)?;
-    let few = "the same, no ring: the fifth FMT is 10";
+    try_title::<W, 1024>(output, b"drawn ten times, 1024 words\n", AGAIN, true)?;
+    let few = b"the same, no ring: the fifth FMT is 10\n";
     try_title::<W, 1024>(output, few, AGAIN, false)
 }
 
 pub(crate) fn all<W: Write>(output: &mut W) -> io::Result<()> {
-    let seven = "a ring of seven words, five steps, three steps back";
+    let seven = b"a ring of seven words, five steps, three steps back\n";
     try_calls::<W, 7>(output, seven, ring_at(0), 5, 3)?;
-    let two = "two words: BR is kept, INC is 10, and BR is lost";
+    let two = b"two words: BR is kept, INC is 10, and BR is lost\n";
     try_calls::<W, 2>(output, two, ring_at(2), 2, 1)?;
     let past = At {
         place: 7,
         ..ring_at(0)
     };
-    try_calls::<W, 7>(output, "a place past the journal: 11", past, 1, 0)?;
+    try_calls::<W, 7>(output, b"a place past the journal: 11\n", past, 1, 0)?;
     let plain = At {
         ring: false,
         ..past
     };
-    try_calls::<W, 7>(output, "the same, no ring: not looked at", plain, 1, 0)?;
+    try_calls::<W, 7>(output, b"the same, no ring: not looked at\n", plain, 1, 0)?;
     titles(output)
 }

@@ -36,7 +36,7 @@ const COINC_FFFE: [u8; 6] = [0xED, 0x00, 0x02, 0x00, 0xFF, 0xFE];
 
 // What the image has from which address on, and how many words of the journal are used.
 struct Case {
-    what: &'static str,
+    what: &'static [u8],
     pieces: &'static [(usize, &'static [u8])],
     room: Room,
     used: usize,
@@ -44,38 +44,38 @@ struct Case {
 
 const CASES: [Case; 6] = [
     Case {
-        what: "one group, >8000 bytes: beyond the image",
+        what: b"one group, >8000 bytes: beyond the image\n",
         pieces: &[(0, &MOVE_8000)],
         room: ONE,
         used: 0,
     },
     Case {
-        what: "one group, >8001 bytes: one is moved",
+        what: b"one group, >8001 bytes: one is moved\n",
         pieces: &[(0, &MOVE_8001)],
         room: ONE,
         used: 0,
     },
     Case {
-        what: "eight groups, a table that goes on at >0000",
+        what: b"eight groups, a table that goes on at >0000\n",
         // The row's limit is >FF, and its size the opcode: the bit is number >ED, in the byte at >001F.
         pieces: &[(0, &COINC_FFFE), (0x1F, &[0x04]), (0xFFFE, &[0xFF])],
         room: EIGHT,
         used: 0,
     },
     Case {
-        what: "an image that is no whole group",
+        what: b"an image that is no whole group\n",
         pieces: &[],
         room: SHORT,
         used: 0,
     },
     Case {
-        what: "used exceeds the journal",
+        what: b"used exceeds the journal\n",
         pieces: &[(0, &MOVE_8001)],
         room: ONE_WORD,
         used: 2,
     },
     Case {
-        what: "a journal of one word",
+        what: b"a journal of one word\n",
         pieces: &[(0, &MOVE_8001)],
         room: ONE_WORD,
         used: 0,
@@ -93,7 +93,7 @@ fn try_step<W: Write>(output: &mut W, case: &Case) -> io::Result<()> {
     };
     let mut machine = Machine::new(&mut image[..room.image], &mut journal[..room.journal], at);
     let report = machine.run(1);
-    writeln!(output, "{}", case.what)?;
+    output.write_all(case.what)?;
     shown::show_run(output, report, &machine.cells)
 }
 
