@@ -1,5 +1,5 @@
 // The fields of a case, parted by " | ". A field is a line of the program with spaces for its tabs.
-ghost use Rattle.std.specs.Prelude.{◌<◌, length, IfSome};
+ghost use Rattle.std.specs.Prelude.{◌<◌, ◌≤◌, length, IfSome};
 
 // The first of some fields, and the fields past its bar; none where nothing is left.
 pub(crate) fn split_field<'a>(fields: &'a [u8]) -> Option<(&'a [u8], &'a [u8])>
@@ -27,7 +27,9 @@ pub(crate) fn past<'a>(fields: &'a [u8], count: usize) -> &'a [u8] {
 }
 
 // A field as a line of the program, as far as a text has room for it.
-pub(crate) fn as_line<'a>(field: &[u8], text: &'a mut [u8]) -> &'a [u8] {
+pub(crate) fn as_line<'a>(field: &[u8], text: &'a mut [u8]) -> &'a [u8]
+    ensures { length result.now ≤ length text.old }
+{
     let len = field.len().min(text.len());
     let line = &mut text[..len];
     line.copy_from_slice(&field[..len]);
