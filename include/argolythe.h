@@ -25,7 +25,7 @@
  *
  * A call needs less than 4 KiB of stack, whatever it is lent and however many steps it makes. The
  * compiled functions do not call themselves, none has a frame of variable size, and the deepest
- * chain of calls, argolythe_run's, takes at most 1,112 bytes: every push and every subtraction from
+ * chain of calls, argolythe_run's, takes at most 1,008 bytes: every push and every subtraction from
  * the stack pointer in its functions, and the return addresses. The 128 bytes below the stack
  * pointer that x86-64 leaves to a function come on top. This is read off the archive, not proved.
  *

@@ -12,6 +12,7 @@ use number::cursor;
 use operand::screen;
 
 #[tactic(auto, using(machine::proofs::Laws::steps, operand::proofs::Stores::run_kept_byte), unfolding(rules::specs::Format::set_cursor))]
+#[inline]
 fn set_cursor(m: &mut Machine<'_>, p: u16) -> Result<(), Why>
     ensures { Does (set_cursor p) m result }
 {

@@ -71,7 +71,8 @@ fn undo_top(
     below
 }
 
-// The top n words, from the top down.
+// The top n words, from the top down. In line, since a call would take the book through memory.
+#[inline]
 pub fn undo(
     image: &mut [u8],
     pad: &mut [u8],

@@ -107,8 +107,8 @@ impl Machine<'_> {
         }
     }
 
-    // A word onto the journal.
-    #[inline]
+    // A word onto the journal. A call would take longer than the word: it is in line in every store.
+    #[inline(always)]
     pub(crate) fn lay(&mut self, w: u32) -> Result<(), Why>
         ensures { LaysIn w self result }
     {
@@ -120,8 +120,9 @@ impl Machine<'_> {
         Ok(())
     }
 
-    #[inline]
-    pub fn load(&mut self, k: Memory, at: usize) -> Result<u8, Why>
+    // A load whose memory the compiler knows.
+    #[inline(always)]
+    fn load_from(&mut self, k: Memory, at: usize) -> Result<u8, Why>
         ensures does { Does (peek (kind_of k) at) self result }
         ensures words { Unwritten self }
     {
@@ -131,6 +132,20 @@ impl Machine<'_> {
             return Ok(b);
         }
         Err(k.outside(at))
+    }
+
+    // Each memory by its own name, so that it is asked once which one it is.
+    #[inline(always)]
+    pub fn load(&mut self, k: Memory, at: usize) -> Result<u8, Why>
+        ensures does { Does (peek (kind_of k) at) self result }
+        ensures words { Unwritten self }
+    {
+        match k {
+            Memory::Cpu => self.load_from(Memory::Cpu, at),
+            Memory::Vdp => self.load_from(Memory::Vdp, at),
+            Memory::Register => self.load_from(Memory::Register, at),
+            Memory::Grom => self.load_from(Memory::Grom, at),
+        }
     }
 
     // High byte first.
@@ -145,9 +160,9 @@ impl Machine<'_> {
         Ok(words::word_of(high, low))
     }
 
-    // The range is tested before the group, and both before the room.
-    #[inline]
-    pub fn store(&mut self, k: Memory, at: usize, b: u8) -> Result<(), Why>
+    // A store whose memory the compiler knows. The range is tested before the group, and both before the room.
+    #[inline(always)]
+    fn store_into(&mut self, k: Memory, at: usize, b: u8) -> Result<(), Why>
         requires { IsNear k at }
         ensures { Does (poke (kind_of k) at b) self result }
     {
@@ -161,6 +176,20 @@ impl Machine<'_> {
         self.lay(words::pack(k.number(), at as u32, old))?;
         self.put(k, at, b);
         Ok(())
+    }
+
+    // Each memory by its own name too.
+    #[inline(always)]
+    pub fn store(&mut self, k: Memory, at: usize, b: u8) -> Result<(), Why>
+        requires { IsNear k at }
+        ensures { Does (poke (kind_of k) at b) self result }
+    {
+        match k {
+            Memory::Cpu => self.store_into(Memory::Cpu, at, b),
+            Memory::Vdp => self.store_into(Memory::Vdp, at, b),
+            Memory::Register => self.store_into(Memory::Register, at, b),
+            Memory::Grom => self.store_into(Memory::Grom, at, b),
+        }
     }
 
     // High byte first, each byte a store of its own.

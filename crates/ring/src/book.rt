@@ -13,13 +13,17 @@ pub struct Book {
     pub ring: bool,
 }
 
-// A place among n words.
+// A place among n words. A division takes longer than a store, so none is made below twice n.
 fn within(n: usize, place: usize) -> usize
     requires { 0 < n }
     ensures { (result ≡ place % n) × (result < n) }
 {
     if place < n {
         return place;
+    }
+    let past = place - n;
+    if past < n {
+        return past;
     }
     place % n
 }
@@ -155,6 +159,6 @@ pub fn lay(journal: &mut [u32], first: Option<usize>, used: usize, w: u32)
         journal[used] = w;
         return;
     };
-    let at = (first % 2305843009213693952 + used) % journal.len();
+    let at = within(journal.len(), first % 2305843009213693952 + used);
     journal[at] = w;
 }

@@ -7,4 +7,4 @@ pub returns-in_default : goal.returns-in_default
 returns-in_default c = λ o a. rw c.in_default.is (laid_plain _ [] _ _ (omega arith) c.requires o a)
 
 pub returns : goal.returns
-returns c = λ o a. rw c.in-Some.is (laid_ring _ (c.in-Some.first ∷ o ∷ []) _ _ _ (omega arith) c.requires refl o a)
+returns c = λ o a. rw c.in-Some.is (laid_ring _ (c.in-Some.first ∷ o ∷ []) _ _ _ (omega arith) c.requires c.within-at.ensures.0 o a)

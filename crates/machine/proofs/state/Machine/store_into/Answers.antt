@@ -5,7 +5,7 @@ use Rattle.std.proofs.lemmas.Grind.{common_steps}
 use Rattle.rules.specs.Machine.{extent, area_of}
 use Rattle.machine.specs.Meaning.{kind_of, extent_of, rest_of, Kept, kept, state}
 use Rattle.machine.proofs.Acts.{poke_far, poke_barred, put_is, storing}
-use Rattle.machine.proofs.state.Machine.store.Goals as goal
+use Rattle.machine.proofs.state.Machine.store_into.Goals as goal
 
 pub returns-then-reach-at : goal.returns-then-reach-at
 unfolding rest_of

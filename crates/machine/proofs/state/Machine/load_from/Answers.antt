@@ -2,7 +2,7 @@
 use Rattle.std.proofs.Common.{refl, arith}
 use Rattle.machine.specs.Meaning.{rest_of}
 use Rattle.machine.proofs.Acts.{peek_far, peeked}
-use Rattle.machine.proofs.state.Machine.load.Goals as goal
+use Rattle.machine.proofs.state.Machine.load_from.Goals as goal
 
 pub returns-then-at-reach : goal.returns-then-at-reach
 unfolding rest_of
